@@ -5,6 +5,7 @@ use Rattle.std.specs.Cmp.Lexicographic.{slice_cmp}
 use Rattle.std.specs.List.{list_any}
 use Rattle.std.specs.FinMap.{FinMap, get, insert, remove}
 use Rattle.std.proofs.lemmas.Bool.{and_parts, both_ways}
+use Rattle.std.specs.Cmp.{Equal-is}
 use Rattle.sqlite.specs.declared.types.Value.TheVariants.{Null, Int, Text as Words, Blob as Bytes}
 use Rattle.sql_forms.specs.Collation.TheVariants.{Binary}
 use Rattle.sql_forms.specs.Order.{value_cmp}
@@ -18,7 +19,6 @@ use Rattle.sql_forms.proofs.ListLemmas.{some_from, some_has}
 use Rattle.sql_forms.specs.Tables.{has_key, FindsRow, without}
 use Rattle.sql_forms.specs.Maps.{Holds}
 use Rattle.sql_forms.proofs.Keys.{as_truth, equal_text, equal_int}
-use Rattle.sql_forms.proofs.Rows.{equal_is}
 use Rattle.mm_definitions.specs.Keys.{Text, tile}
 use Rattle.mm_definitions.proofs.Parts.{not_none, same_key, same_itself, apart, beside_put, after_put, at_remove, beside_remove}
 use Rattle.mm_definitions.proofs.KeyLaws.{numbers, texts}
@@ -40,7 +40,7 @@ unfolding binary
 equal_bytes a b = as_truth _ ∙ ap is_eq (value_cmp-Blob a b)
 
 same_bytes : (a b : List ℕ) → equal Binary (Bytes a) (Bytes b) ≡ true → a ≡ b
-same_bytes a b h = texts.exact a b (equal_is _ (sym (equal_bytes a b) ∙ h))
+same_bytes a b h = texts.exact a b ((Equal-is _).0 (sym (equal_bytes a b) ∙ h))
 
 same_int : (a b : ℤ) → Int a ≡ Int b → a ≡ b
 same_int a b e = cc
@@ -259,7 +259,7 @@ hits_id place id r o is named = ap (λ v. equal Binary v (Int id) && true) (is �
 
 pub only_id : (place : ℕ) (id : ℤ) (r : Row) (o : Option ℤ) → column r place ≡ maybe o → at_id place id r ≡ true → o ≡ Some id
 only_id place id r None is h = absurd (let e : (equal Binary Null (Int id) && true) ≡ true = ap (λ v. equal Binary v (Int id) && true) (sym is) ∙ h in null_is id e)
-only_id place id r (Some z) is h = ap Some (numbers.exact z id (equal_is _ (sym (equal_int z id) ∙ (and_parts _ _ (ap (λ v. equal Binary v (Int id) && true) (sym is) ∙ h)).0)))
+only_id place id r (Some z) is h = ap Some (numbers.exact z id ((Equal-is _).0 (sym (equal_int z id) ∙ (and_parts _ _ (ap (λ v. equal Binary v (Int id) && true) (sym is) ∙ h)).0)))
 
 -- ---- from what is kept to the package with it
 

@@ -1,10 +1,10 @@
 -- What holds of each entry of a finite map holds along the list of its entries.
-use Rattle.std.proofs.Common.{◌≡◌, Bool, true, false, cond, ◌&&◌, List, [], ◌∷◌, Some, None, refl, ap, ◌∙◌, inl, inr}
+use Rattle.std.proofs.Common.{◌≡◌, Bool, true, false, cond, ◌&&◌, ◌||◌, List, [], ◌∷◌, Some, None, refl, ap, ◌∙◌, inl, inr}
 use Rattle.std.specs.Prelude.{T}
 use Rattle.std.specs.declared.cmp.Ordering.{Ordering}
 use Rattle.std.specs.declared.cmp.Ordering.TheVariants.{Less, Equal, Greater}
 use Rattle.std.specs.Ordering.{is_eq, is_lt}
-use Rattle.std.specs.List.{AllByRecursion}
+use Rattle.std.specs.List.{AllByRecursion, list_any}
 use Rattle.std.specs.FinMap.{FinMap, entries, entries_sorted, find, is_sorted, get-entries}
 use Rattle.std.specs.FinMap.Entries.{below_all}
 use Rattle.mm_definitions.specs.Parts.{Each}
@@ -17,6 +17,11 @@ and_parts false b h = absurd h
 pub and_both : (a b : Bool) → T a → T b → T (a && b)
 and_both true b p q = q
 and_both false b p q = p
+
+-- a test that is false of each element is true of none
+pub none_along : {A : Type 0} (test : A → Bool) (es : List A) → AllByRecursion (λ e. test e ≡ false) es → list_any test es ≡ false
+none_along test [] h = refl
+none_along test (e ∷ es) h = ap (λ b. b || list_any test es) h.0 ∙ none_along test es h.1
 
 not_tied : (r : Ordering) → T (is_lt r) → is_eq r ≡ false
 not_tied Less h = refl

@@ -1,12 +1,13 @@
 -- Laws of finite maps whose order tells all keys apart.
 use Rattle.std.proofs.Common.{◌≡◌, ◌≢◌, Bool, true, false, cond, ◌||◌, List, [], ◌∷◌, Option, Some, None, is_some, refl, sym, ap, subst, ◌∙◌, ◌⊎◌, inl, inr}
 use Rattle.std.specs.declared.cmp.Ordering.{Ordering}
-use Rattle.std.specs.declared.cmp.Ordering.TheVariants.{Less, Equal, Greater}
+use Rattle.std.specs.declared.cmp.Ordering.TheVariants.{Equal}
 use Rattle.std.specs.Ordering.{eq_by_cmp, is_eq}
-use Rattle.std.specs.Cmp.{IsTotalOrder, tied_itself}
+use Rattle.std.specs.Cmp.{IsTotalOrder, tied_itself, Equal-is}
 use Rattle.std.specs.List.{list_any}
 use Rattle.std.specs.FinMap.{FinMap, get, contains_key, insert, remove, retain_keys, entries, find, IsAntisymmetric}
 use Rattle.std.specs.FinMap.{same_map, get-insert, get-remove, get-retain_keys, get-entries}
+use Rattle.std.specs.Option.{IsSome}
 use Rattle.mm_definitions.specs.Parts.{Each, Has, Stands, some_entry}
 
 -- An order under which only equal keys tie.
@@ -18,20 +19,24 @@ pub record IsKeyOrder {K : Type 0} (R : K → K → Ordering) : Type 0 where
 abbrev pub SameKey : {K : Type 0} → (K → K → Ordering) → K → K → Type 0
 SameKey R a b = ((a ≡ b) × (eq_by_cmp R a b ≡ true)) ⊎ ((a ≢ b) × (eq_by_cmp R a b ≡ false))
 
-equal : (r : Ordering) → is_eq r ≡ true → r ≡ Equal
-equal Less e = absurd (let f : false ≡ true = e in cc)
-equal Equal e = refl
-equal Greater e = absurd (let f : false ≡ true = e in cc)
-
 pub same_some : {X : Type 0} {x y : X} → ◌≡◌ {A = Option X} (Some x) (Some y) → x ≡ y
 same_some e = cc
+
+-- an option that is none is not some
+pub never_some : {X : Type 0} (o : Option X) → o ≡ None → IsSome o → ⊥
+never_some None is h = absurd (let e : false ≡ true = h in cc)
+never_some (Some x) is h = absurd cc
+
+-- a key that a map lacks does not stand in it
+pub lacks : {K X : Type 0} {R : K → K → Ordering} (m : FinMap R X) (k : K) → contains_key m k ≡ false → Stands m k → ⊥
+lacks m k free stands = let f : true ≡ false = sym stands ∙ free in cc
 
 pub not_none : {X : Type 0} {x : X} {o : Option X} → o ≡ Some x → o ≡ None → ⊥
 not_none e f = let g : Some _ ≡ None = sym e ∙ f in cc
 
 pub same_key : {K : Type 0} {R : K → K → Ordering} → IsKeyOrder R → (a b : K) → SameKey R a b
 same_key {K} {R} o a b = elim (eq_by_cmp R a b) as (λ t. eq_by_cmp R a b ≡ t → SameKey R a b) [
-  | true ↦ λ e. inl (o.exact a b (equal (R a b) e), e)
+  | true ↦ λ e. inl (o.exact a b ((Equal-is (R a b)).0 e), e)
   | false ↦ λ e. inr (λ s. let t : eq_by_cmp R a a ≡ true = ap is_eq (tied_itself o.total a) in let f : eq_by_cmp R a a ≡ false = ap (eq_by_cmp R a) s ∙ e in let g : true ≡ false = sym t ∙ f in cc, e)
 ] refl
 

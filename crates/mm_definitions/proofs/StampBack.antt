@@ -12,6 +12,7 @@ use Rattle.jiff_core.specs.Calendar.{days_from_civil, days_in_month}
 use Rattle.jiff_core.proofs.CalendarLemmas.{days_in_month_bounds}
 use Rattle.mm_definitions.specs.Stamp.{IsStamp, IsSomeStamp, stamp_text, year_in, pair_at, time_in}
 use Rattle.mm_definitions.proofs.Dates.{start_is}
+use Rattle.mm_definitions.proofs.Integers.{natural, same_pos}
 
 start : Date
 start = record { year = pos 1970; month = 1; day = 1; year_in = search rules; month_in = search rules; day_in = search rules }
@@ -98,10 +99,7 @@ shown_parts text m st =
     )
 
 pub same_day : (y m d : ℤ) (a b : Date) → IsYmd y m d a → IsYmd y m d b → (a.year ≡ b.year) × (a.month ≡ b.month) × (a.day ≡ b.day)
-same_day y m d a b p q = (p.0 ∙ sym q.0, whole (p.1 ∙ sym q.1), whole (p.2 ∙ sym q.2))
-  where
-    whole : {i j : ℕ} → pos i ≡ pos j → i ≡ j
-    whole e = cc
+same_day y m d a b p q = (p.0 ∙ sym q.0, same_pos _ _ (p.1 ∙ sym q.1), same_pos _ _ (p.2 ∙ sym q.2))
 
 pub day_of : (a b : Date) → (a.year ≡ b.year) × (a.month ≡ b.month) × (a.day ≡ b.day) → epoch_day a ≡ epoch_day b
 day_of a b e = ap (λ y. days_from_civil y a.month a.day) e.0 ∙ ap (λ m. days_from_civil b.year m a.day) e.1 ∙ ap (days_from_civil b.year b.month) e.2
@@ -144,10 +142,7 @@ module _ (text : List ℕ) (d : Date) (ymd : IsYmd (pos (year_in text)) (pos (pa
       remainder day t k = omega (arith, k)
 
 pub day_number : (d : Date) → pos 0 ≤ℤ epoch_day d → (day : ℕ) × (epoch_day d ≡ pos day) × (day ≤ 2932896)
-day_number d h = let r = epoch_day_range d in (unsigned_abs (epoch_day d), back (epoch_day d) h, low (epoch_day d) h r.1)
+day_number d h = let r = epoch_day_range d in (unsigned_abs (epoch_day d), natural (epoch_day d) h, low (epoch_day d) h r.1)
   where
-    back : (z : ℤ) → pos 0 ≤ℤ z → z ≡ pos (unsigned_abs z)
-    back z h = omega (arith, ints, h)
-
     low : (z : ℤ) → pos 0 ≤ℤ z → z ≤ℤ pos 2932896 → unsigned_abs z ≤ 2932896
     low z h k = omega (arith, ints, h, k)

@@ -18,7 +18,7 @@ use Rattle.sql_forms.specs.Forms.{query, alone, no_limit}
 use Rattle.sql_forms.specs.Tables.{is_table, tables_of, IsFirstShown}
 use Rattle.sql_forms.specs.Maps.{Holds}
 use Rattle.sql_forms.proofs.Joins as joins
-use Rattle.sql_forms.proofs.Lists.{has_flat, flat_has, none_holds, either_any}
+use Rattle.sql_forms.proofs.Lists.{has_flat, flat_has, either_any}
 use Rattle.sql_forms.proofs.Queries.{no_overlay}
 use Rattle.sql_forms.proofs.Selects.{IsSelect, first_taken}
 use Rattle.sql_forms.proofs.States.{shows_as}
@@ -29,7 +29,7 @@ use Rattle.mm_definitions.specs.Package.{Package, Relation}
 use Rattle.mm_definitions.specs.Conditions.{is_mapped}
 use Rattle.mm_definitions.proofs.Parts.{same_key, same_itself, no_entry}
 use Rattle.mm_definitions.proofs.KeyLaws.{texts, pairing_keys}
-use Rattle.mm_definitions.proofs.Listed.{along_entries}
+use Rattle.mm_definitions.proofs.Listed.{along_entries, none_along}
 use Rattle.mm_store.specs.Rows.{past_rowid, past_id, relation_row, pairing_row}
 use Rattle.mm_blobs.proofs.Sweeping.{there_if}
 
@@ -127,7 +127,7 @@ module _ (p : Package) (table : Text) (id : ℤ) (rels maps : List Row) (hr : Ho
 
     unpaired : ((r m : Row) → Has rels r → Has maps m → test r m ≡ false) → some_entry (λ k _. ended k) p.pairings ≡ false
     unfolding some_entry
-    unpaired none = none_holds (λ (e : Pairing × ⊤). ended e.0) (entries p.pairings) (along_entries pairing_keys (λ k v. ended k ≡ false) p.pairings (λ k v has. by k v has (get p.relations k.mapping) refl))
+    unpaired none = none_along (λ (e : Pairing × ⊤). ended e.0) (entries p.pairings) (along_entries pairing_keys (λ k v. ended k ≡ false) p.pairings (λ k v has. by k v has (get p.relations k.mapping) refl))
       where
         by : (k : Pairing) (u : ⊤) → get p.pairings k ≡ Some u → (o : Option Relation) → get p.relations k.mapping ≡ o → ended k ≡ false
         by k u has None is = ap (at_value (λ (v : Relation). same_text (of v) table && same_number (number k) id)) is

@@ -3,7 +3,6 @@ use Rattle.std.proofs.Common.{◌≡◌, ℕ, ℤ, pos, Bool, true, false, not, 
 use Rattle.std.specs.Prelude.{nat_le, int_le}
 use Rattle.std.specs.List.{list_all}
 use Rattle.std.specs.FinMap.{get, contains_key}
-use Rattle.std.proofs.lemmas.Bool.{false_from_ne_true}
 use Rattle.mm_definitions.specs.Bounds.{Profile}
 use Rattle.mm_definitions.specs.Keys.{Text, same_text, level, tile, item}
 use Rattle.mm_definitions.specs.Parts.{at_value}
@@ -15,8 +14,8 @@ use Rattle.mm_definitions.specs.declared.commands.Kind.{Kind}
 use Rattle.mm_definitions.specs.declared.commands.Kind.TheVariants as kinds
 use Rattle.mm_definitions.specs.declared.commands.PlainKind.{PlainKind}
 use Rattle.mm_definitions.specs.declared.commands.Command.TheVariants as commands
-use Rattle.mm_definitions.proofs.Parts.{some_of, not_none}
 use Rattle.mm_definitions.proofs.FirstReason.{first_of}
+use Rattle.mm_layout.proofs.Registered.{lacks_contents, has_contents}
 
 -- ---- the kind of the table
 
@@ -37,18 +36,12 @@ kind_free true true e = (refl, refl)
 
 module _ (p : Package) (table : Text) where
   module _ (profile : Profile) (meets : Meets profile p) where
-    unregistered : get p.kinds table ≡ None → contains_key p.contents table ≡ false
-    unregistered none = false_from_ne_true _ (λ stands. let c = some_of (get p.contents table) stands in let k = meets.q5.registered table c.0 c.1 in not_none k.1 none)
-
     pub kind_25 : (suited : Bool) → get p.kinds table ≡ None → Some 25 ≡ of_kind (contains_key p.contents table) suited []
-    kind_25 suited none = sym (ap (λ b. of_kind b suited []) (unregistered none))
+    kind_25 suited none = sym (ap (λ b. of_kind b suited []) (lacks_contents profile p meets table none))
 
     module _ (kind : Kind) (has : get p.kinds table ≡ Some (kind_text kind)) where
-      stands : contains_key p.contents table ≡ true
-      stands = meets.q5.of_kinds table (kind_text kind) has
-
       kind_told : (suited : Bool) → of_kind (contains_key p.contents table) suited [] ≡ of_kind true suited []
-      kind_told suited = ap (λ b. of_kind b suited []) stands
+      kind_told suited = ap (λ b. of_kind b suited []) (has_contents profile p meets table kind has)
 
       abbrev pub pyramid_by : Option Text → Bool
       pyramid_by v = at_value (same_text (kind_text kinds.Two)) v || at_value (same_text (kind_text kinds.Other)) v

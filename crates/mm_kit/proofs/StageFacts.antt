@@ -7,6 +7,7 @@ use Rattle.std.proofs.Math.Nat.{max-eq_left, max-eq_right}
 use Rattle.std.proofs.Math.Dec.{leb}
 use Rattle.std.proofs.lemmas.Bool.Decides.{leb_tells}
 use Rattle.std.specs.FinMap.{get, insert, contains_key}
+use Rattle.mm_definitions.proofs.Integers.{same_pos}
 use Rattle.mm_definitions.specs.Bounds.{IsFrom, IsId, current}
 use Rattle.mm_definitions.specs.Keys.{Text, PieceKey, piece}
 use Rattle.mm_definitions.specs.Package.{Package, PieceRow}
@@ -20,7 +21,6 @@ use Rattle.mm_definitions.specs.declared.commands.Command.{Command}
 use Rattle.mm_definitions.specs.declared.commands.Command.TheVariants as commands
 use Rattle.mm_definitions.specs.declared.commands.Piece.{Piece}
 use Rattle.mm_definitions.proofs.Parts.{same_key, at_put, beside_put, same_some}
-use Rattle.mm_definitions.proofs.Dates.{same_pos}
 use Rattle.mm_definitions.proofs.KeyLaws.{piece_keys}
 use Rattle.mm_laws.proofs.Again.{same_row}
 use Rattle.mm_laws.proofs.Counted.{piece_count-is}

@@ -3,7 +3,7 @@ use Rattle.std.proofs.Common.{◌≡◌, ◌↔◌, ℕ, ◌+◌, ℤ, pos, ◌�
 use Rattle.std.proofs.Common.{sym, ap, ◌∙◌, arith, Bool, false, if◌then◌else◌, Option}
 use Rattle.std.proofs.lemmas.Int.{ints}
 use Rattle.std.specs.FinMap.{get, contains_key}
-use Rattle.std.proofs.lemmas.Bool.{not-false}
+use Rattle.std.proofs.lemmas.Bool.{not-false, and_parts}
 use Rattle.mm_definitions.specs.Keys.{Text, piece}
 use Rattle.mm_definitions.specs.Package.{Package, PieceRow, PiecesPart}
 use Rattle.mm_definitions.specs.Bounds.{Profile}
@@ -19,23 +19,23 @@ use Rattle.mm_definitions.specs.declared.commands.Command.TheVariants as command
 use Rattle.mm_definitions.proofs.Parts.{either_false, put_again, same_some}
 use Rattle.mm_definitions.proofs.KeyLaws.{texts, numbers, piece_keys}
 use Rattle.mm_laws.proofs.Reasons.{none_holds, and_false, stands_where}
-use Rattle.mm_laws.proofs.KindFacts.{are_same, both_true, at_true}
+use Rattle.mm_laws.proofs.KindFacts.{are_same, at_true}
 use Rattle.mm_laws.proofs.Closed.{no_refusal}
 use Rattle.mm_laws.proofs.Published.{read_back}
 
 pub same_row : (a b : PieceRow) → same_piece a b ≡ true → a ≡ b
 same_row a b e =
-    let bytes = both_true _ _ e in
-    let t2 = both_true _ _ bytes.0 in
-    let t1 = both_true _ _ t2.0 in
-    let k7 = both_true _ _ t1.0 in
-    let k6 = both_true _ _ k7.0 in
-    let k5 = both_true _ _ k6.0 in
-    let k4 = both_true _ _ k5.0 in
-    let k3 = both_true _ _ k4.0 in
-    let k2 = both_true _ _ k3.0 in
-    let k1 = both_true _ _ k2.0 in
-    let name = both_true _ _ k1.0 in
+    let bytes = and_parts _ _ e in
+    let t2 = and_parts _ _ bytes.0 in
+    let t1 = and_parts _ _ t2.0 in
+    let k7 = and_parts _ _ t1.0 in
+    let k6 = and_parts _ _ k7.0 in
+    let k5 = and_parts _ _ k6.0 in
+    let k4 = and_parts _ _ k5.0 in
+    let k3 = and_parts _ _ k4.0 in
+    let k2 = and_parts _ _ k3.0 in
+    let k1 = and_parts _ _ k2.0 in
+    let name = and_parts _ _ k1.0 in
     λ i. record {
       kind = are_same texts a.kind b.kind name.0 i;
       name = are_same texts a.name b.name name.1 i;

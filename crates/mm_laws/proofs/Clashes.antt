@@ -1,7 +1,6 @@
 -- The nearest zooms tell whether any zoom clashes.
-use Rattle.std.proofs.Common.{◌≡◌, ◌↔◌, ℤ, Bool, true, false, not, ◌&&◌, ◌||◌, List, [], ◌∷◌, Option, refl, sym, ap, ◌∙◌}
+use Rattle.std.proofs.Common.{◌≡◌, ◌↔◌, ℤ, Bool, true, false, not, ◌&&◌, Option, refl, sym, ap, ◌∙◌}
 use Rattle.std.specs.declared.cmp.Ordering.{Ordering}
-use Rattle.std.specs.List.{list_any, AllByRecursion}
 use Rattle.std.specs.FinMap.{FinMap, get, contains_key, entries}
 use Rattle.mm_definitions.specs.Keys.{Text, same_text, level}
 use Rattle.mm_definitions.specs.Parts.{Each, some_entry}
@@ -12,14 +11,10 @@ use Rattle.mm_definitions.specs.Neighbours.{Zoomed, neighbours, IsNearestBelow, 
 use Rattle.mm_definitions.specs.declared.commands.Kind.TheVariants.{Two}
 use Rattle.mm_definitions.proofs.Parts.{IsKeyOrder}
 use Rattle.mm_definitions.proofs.KeyLaws.{levels, texts}
-use Rattle.mm_definitions.proofs.Listed.{along_entries}
+use Rattle.mm_definitions.proofs.Listed.{along_entries, none_along}
 use Rattle.mm_laws.proofs.KindFacts.{are_same}
 use Rattle.mm_laws.proofs.PixelSizes.{SuitsAll, suits_unless_clashes, still_finer, still_halved}
 use Rattle.mm_laws.proofs.Nearest.{suits_all, nearest}
-
-none_along : {A : Type 0} (test : A → Bool) (es : List A) → AllByRecursion (λ e. test e ≡ false) es → list_any test es ≡ false
-none_along test [] h = refl
-none_along test (e ∷ es) h = ap (λ b. b || list_any test es) h.0 ∙ none_along test es h.1
 
 module _ {K X : Type 0} {R : K → K → Ordering} (o : IsKeyOrder R) where
   -- a test that is false of each entry is true of none

@@ -1,5 +1,5 @@
 -- A table that is dropped, and a relation or edition that is, keep the rules.
-use Rattle.std.proofs.Common.{◌≡◌, ◌≢◌, ℤ, pos, ◌+ℤ◌, true, false, not, ◌||◌, [], Option, Some, None, codes, refl, sym, ap, subst, ◌∙◌, ◌⊎◌, inl, inr, is_some}
+use Rattle.std.proofs.Common.{◌≡◌, ◌≢◌, ℤ, pos, ◌+ℤ◌, true, false, not, ◌||◌, Option, Some, None, codes, refl, sym, ap, subst, ◌∙◌, ◌⊎◌, inl, inr, is_some}
 use Rattle.std.specs.FinMap.{get, remove, retain_keys}
 use Rattle.mm_definitions.specs.Keys.{Text, same_text, level, item, Pairing, Extension}
 use Rattle.mm_definitions.specs.Parts.{Has, Stands}
@@ -13,7 +13,7 @@ use Rattle.mm_definitions.specs.Effects.{is_other, without_table}
 use Rattle.mm_definitions.specs.declared.commands.Kind.{Kind}
 use Rattle.mm_definitions.specs.declared.commands.Kind.TheVariants as kinds
 use Rattle.mm_definitions.specs.declared.commands.Command.TheVariants as commands
-use Rattle.mm_definitions.proofs.Parts.{each_remove, each_retain, after_remove, after_retain, kept, beside_remove}
+use Rattle.mm_definitions.proofs.Parts.{each_remove, each_retain, after_remove, after_retain, kept, beside_remove, same_some}
 use Rattle.mm_definitions.proofs.Parts.{absent_after_remove, no_entry, either_false, same_itself, apart}
 use Rattle.mm_definitions.proofs.KeyLaws.{levels, texts, tile_keys, items, extension_keys}
 use Rattle.mm_laws.proofs.Kept.{Keeps}
@@ -90,17 +90,12 @@ module _ (p : Package) (table : Text) (unused : is_used p table ≡ false) where
   wanted_still e n (inr (inl m)) = inr (inl m)
   wanted_still e n (inr (inr t)) = inr (inr (t.0, kind_still t.0 kinds.Other (λ same. n (t.2 ∙ ap zoom_extension same)) t.1, t.2))
 
-  name_of : Option Text → Text
-  name_of None = []
-  name_of (Some t) = t
-
   wanted_was : (e : Extension) → IsWanted (remove p.kinds table) p.relations e → (e ≢ zoom_extension table) × IsWanted p.kinds p.relations e
-  unfolding name_of
   wanted_was e (inl a) = (λ s. differ general_extension.name (zoom_extension table).name refl (ap (λ (x : Extension). x.name) (sym a ∙ s)), inl a)
   wanted_was e (inr (inl m)) = (λ s. differ (mapping_extension m.0).name (zoom_extension table).name refl (ap (λ (x : Extension). x.name) (sym m.2 ∙ s)), inr (inl m))
   wanted_was e (inr (inr t)) =
       let was = kind_was t.0 kinds.Other t.1 in
-      (λ s. was.0 (ap (λ (x : Extension). name_of x.table) (sym t.2 ∙ s)), inr (inr (t.0, was.1, t.2)))
+      (λ s. was.0 (same_some (ap (λ (x : Extension). x.table) (sym t.2 ∙ s))), inr (inr (t.0, was.1, t.2)))
 
   keeps_without : (profile : Profile) → Meets profile p → Meets profile (without_table p table)
   unfolding next

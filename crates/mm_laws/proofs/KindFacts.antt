@@ -1,5 +1,5 @@
 -- Tests on kinds, and what the registry says of them.
-use Rattle.std.proofs.Common.{◌≡◌, ◌≢◌, Bool, true, false, ◌&&◌, ◌||◌, Option, Some, None, refl, sym, ap, ◌∙◌, ◌⊎◌, inl, inr}
+use Rattle.std.proofs.Common.{◌≡◌, ◌≢◌, Bool, true, false, ◌||◌, Option, Some, None, refl, sym, ap, ◌∙◌, ◌⊎◌, inl, inr}
 use Rattle.std.specs.declared.cmp.Ordering.{Ordering}
 use Rattle.std.specs.Ordering.{eq_by_cmp}
 use Rattle.std.specs.FinMap.{FinMap, get}
@@ -17,10 +17,6 @@ use Rattle.mm_definitions.proofs.CleanTexts.{ascii_is_clean}
 -- two keys that the test calls the same are
 pub are_same : {K : Type 0} {R : K → K → Ordering} → IsKeyOrder R → (a b : K) → eq_by_cmp R a b ≡ true → a ≡ b
 are_same o a b e = elim (same_key o a b) as (λ _. a ≡ b) [ inl s ↦ s.0 | inr n ↦ absurd (let f : true ≡ false = sym e ∙ n.1 in cc) ]
-
-pub both_true : (a b : Bool) → (a && b) ≡ true → (a ≡ true) × (b ≡ true)
-both_true true b e = (refl, e)
-both_true false b e = absurd (let f : false ≡ true = e in cc)
 
 pub either_true : (a b : Bool) → (a || b) ≡ true → (a ≡ true) ⊎ (b ≡ true)
 either_true true b e = inl refl

@@ -1,7 +1,7 @@
 -- A matrix that is put keeps the rules.
 use Rattle.std.proofs.Common.{◌≡◌, ℕ, pos, ◌*ℤ◌, ◌-ℤ◌, true, false, not, Option, Some, None, refl, sym, ap, subst, ◌∙◌}
 use Rattle.std.specs.FinMap.{FinMap, get, contains_key, insert}
-use Rattle.std.proofs.lemmas.Bool.{not-false}
+use Rattle.std.proofs.lemmas.Bool.{not-false, and_parts}
 use Rattle.mm_definitions.specs.Keys.{Text, Level, level, level_cmp}
 use Rattle.mm_definitions.specs.Parts.{Has, at_value}
 use Rattle.mm_definitions.specs.Package.{Grid, Box, MatrixSet, IsPyramid, is_pyramid, has_kind}
@@ -14,13 +14,13 @@ use Rattle.mm_definitions.proofs.Parts.{each_put, kept_by_new}
 use Rattle.mm_definitions.proofs.KeyLaws.{levels, numbers}
 use Rattle.mm_laws.proofs.Kept.{Keeps}
 use Rattle.mm_laws.proofs.Reasons.{none_holds, and_false}
-use Rattle.mm_laws.proofs.KindFacts.{are_same, both_true, is_pyramid_tells, pyramid_set}
+use Rattle.mm_laws.proofs.KindFacts.{are_same, is_pyramid_tells, pyramid_set}
 use Rattle.mm_laws.proofs.Touch.{touch_keeps}
 use Rattle.mm_laws.proofs.PixelSizes.{SuitsAll, suits_unless_clashes, still_finer, still_halved}
 
 pub product_tells : (b : Box) (g : Grid) → is_product b g ≡ true → Fits b g
 product_tells b g e =
-    let p = both_true _ _ e in
+    let p = and_parts _ _ e in
     record {
       across = are_same numbers (b.max_x -ℤ b.min_x) ((g.matrix_width *ℤ g.tile_width) *ℤ g.pixel_x_size) p.0;
       down = are_same numbers (b.max_y -ℤ b.min_y) ((g.matrix_height *ℤ g.tile_height) *ℤ g.pixel_y_size) p.1;

@@ -2,7 +2,7 @@
 use Rattle.std.proofs.Common.{◌≡◌, ℤ, pos, ◌+ℤ◌, ◌*ℤ◌, ◌<ℤ◌, ◌≤ℤ◌, Bool, true, false, not, ◌&&◌, ◌||◌, Option, Some}
 use Rattle.std.proofs.Common.{None, int_lt, refl, sym, ap, ◌∙◌, ◌⊎◌, inl, inr, is_some, arith, ◌↔◌}
 use Rattle.std.proofs.lemmas.Int.{ints}
-use Rattle.std.proofs.lemmas.Bool.{and_from}
+use Rattle.std.proofs.lemmas.Bool.{and_from, and_parts}
 use Rattle.std.specs.FinMap.{FinMap, get, contains_key, insert}
 use Rattle.mm_definitions.specs.Keys.{Text, same_number, level, level_cmp}
 use Rattle.mm_definitions.specs.Parts.{Has}
@@ -13,7 +13,7 @@ use Rattle.mm_definitions.specs.Neighbours.{Zoomed, neighbours, suits_below, sui
 use Rattle.mm_definitions.specs.declared.commands.Kind.TheVariants.{Two}
 use Rattle.mm_definitions.proofs.Parts.{at_put, kept_by_new, same_some, true_or_false}
 use Rattle.mm_definitions.proofs.KeyLaws.{levels, numbers}
-use Rattle.mm_laws.proofs.KindFacts.{are_same, both_true, has_kind_tells}
+use Rattle.mm_laws.proofs.KindFacts.{are_same, has_kind_tells}
 use Rattle.mm_laws.proofs.PixelSizes.{SuitsAll, below as is_lower, is_below, finer_above, still_finer, still_halved}
 use Rattle.mm_laws.proofs.PieceReasons.{same_as}
 
@@ -81,7 +81,7 @@ module _ (matrices : FinMap level_cmp Grid) (table : Text) (zoom : ℤ) (g : Gri
   pub suits_all : (below above : Option Zoomed) → IsNearestBelow matrices table zoom below → IsNearestAbove matrices table zoom above
       → neighbours below zoom g above halved ≡ true → SuitsAll matrices table zoom g halved
   suits_all below above low high t other h e =
-      let p = both_true (suits_below halved below zoom g) (suits_over halved zoom g above) t in
+      let p = and_parts (suits_below halved below zoom g) (suits_over halved zoom g above) t in
       and_from _ _
       (unless (int_lt zoom other) _ (λ up. over_all above high p.1 other h e (is_lower zoom other up)))
       (unless (int_lt other zoom) _ (λ down. under_all below low p.0 other h e (is_lower other zoom down)))

@@ -3,6 +3,7 @@ use Rattle.std.proofs.Common.{◌≡◌, ℕ, Bool, true, false, not, ◌&&◌, 
 use Rattle.std.proofs.Common.{None, Result, Ok, Err, is_err, is_some, if◌then◌else◌, refl, sym, ap, subst, ◌∙◌, ◌⊎◌}
 use Rattle.std.proofs.Common.{inl, inr, arith}
 use Rattle.std.proofs.Math.Bool.{and-false}
+use Rattle.std.proofs.lemmas.Bool.{and_parts}
 use Rattle.mm_definitions.proofs.Parts.{same_some}
 use Rattle.mm_definitions.specs.Package.{Package}
 use Rattle.mm_definitions.specs.Conditions.{Reasons, least, smaller, own_reasons}
@@ -12,7 +13,6 @@ use Rattle.mm_definitions.specs.Refusals.{Refusal}
 use Rattle.mm_definitions.specs.declared.commands.Command.{Command}
 use Rattle.mm_definitions.specs.declared.commands.Command.TheVariants as commands
 use Rattle.mm_laws.specs.Laws.{is_reason_number, IsNumberedRefusal}
-use Rattle.mm_laws.proofs.KindFacts.{both_true}
 
 abbrev AllNumbers : (ℕ → Bool) → Reasons → Bool
 AllNumbers test [] = true
@@ -33,7 +33,7 @@ passes test m false v n this rest e = rest n e
 least_passes : (test : ℕ → Bool) (rs : Reasons) (n : ℕ) → AllNumbers test rs ≡ true → least rs ≡ Some n → test n ≡ true
 least_passes test [] n all e = absurd (let f : ◌≡◌ {A = Option ℕ} None (Some n) = e in cc)
 least_passes test (r ∷ rs) n all e =
-    let p = both_true (test r.0) (AllNumbers test rs) all in
+    let p = and_parts (test r.0) (AllNumbers test rs) all in
     passes test r.0 r.1 (least rs) n p.0 (λ k f. least_passes test rs k p.1 f) e
 
 own_numbers : (p : Package) (c : Command) → AllNumbers (λ n. is_reason_number n && not (n == 53)) (own_reasons p c) ≡ true
@@ -61,13 +61,13 @@ own_numbers p (commands.MapDrop mapping base_id related_id) = refl
 with_last : (test : ℕ → Bool) (rs : Reasons) (n : ℕ) (b : Bool) → AllNumbers test rs ≡ true → test n ≡ true → AllNumbers test (rs ++ (n, b) ∷ []) ≡ true
 with_last test [] n b all this = ap (λ t. t && true) this
 with_last test (r ∷ rs) n b all this =
-    let p = both_true (test r.0) (AllNumbers test rs) all in
+    let p = and_parts (test r.0) (AllNumbers test rs) all in
     ap (λ t. t && AllNumbers test (rs ++ (n, b) ∷ [])) p.0 ∙ with_last test rs n b p.1 this
 
 weaker : (test more : ℕ → Bool) (rs : Reasons) → ((n : ℕ) → test n ≡ true → more n ≡ true) → AllNumbers test rs ≡ true → AllNumbers more rs ≡ true
 weaker test more [] so all = refl
 weaker test more (r ∷ rs) so all =
-    let p = both_true (test r.0) (AllNumbers test rs) all in
+    let p = and_parts (test r.0) (AllNumbers test rs) all in
     ap (λ t. t && AllNumbers more rs) (so r.0 p.0) ∙ weaker test more rs so p.1
 
 without_last : (rs : Reasons) (n : ℕ) → least (rs ++ (n, false) ∷ []) ≡ least rs
@@ -94,10 +94,10 @@ numbered p c r e = by_least (least (reasons p c)) refl e where
   all : (p : Package) (c : Command) → AllNumbers is_reason_number (reasons p c) ≡ true
   all p c = with_last is_reason_number (own_reasons p c) 53 (is_publishing p c && is_err (publishing p c []))
       (weaker (λ n. is_reason_number n && not (n == 53)) is_reason_number (own_reasons p c)
-      (λ n h. (both_true (is_reason_number n) (not (n == 53)) h).0) (own_numbers p c)) refl
+      (λ n h. (and_parts (is_reason_number n) (not (n == 53)) h).0) (own_numbers p c)) refl
 
   not_it : (p : Package) (c : Command) → AllNumbers (λ n. not (n == 53)) (own_reasons p c) ≡ true
-  not_it p c = weaker (λ n. is_reason_number n && not (n == 53)) (λ n. not (n == 53)) (own_reasons p c) (λ n h. (both_true (is_reason_number n) (not (n == 53)) h).1) (own_numbers p c)
+  not_it p c = weaker (λ n. is_reason_number n && not (n == 53)) (λ n. not (n == 53)) (own_reasons p c) (λ n h. (and_parts (is_reason_number n) (not (n == 53)) h).1) (own_numbers p c)
 
   by_least : (v : Option ℕ) → least (reasons p c) ≡ v → refusal_of v (refused_piece (publishing p c [])) ≡ Some r → IsNumberedRefusal r
   by_least None l f = absurd (let g : ◌≡◌ {A = Option Refusal} None (Some r) = f in cc)

@@ -3,12 +3,12 @@ use Rattle.std.proofs.Common.{◌≡◌, ℕ, ◌/◌, ◌%◌, ◌≤◌, ℤ, 
 use Rattle.std.proofs.lemmas.Int.{ints}
 use Rattle.jiff.proofs.Family.{epoch_day_injective, epoch_day_range}
 use Rattle.jiff.specs.Words.{epoch_day}
+use Rattle.mm_definitions.proofs.Integers.{same_pos}
 use Rattle.mm_definitions.specs.Keys.{Text}
 use Rattle.mm_definitions.specs.Bounds.{IsMoment}
 use Rattle.mm_definitions.specs.Stamp.{IsStamp, stamp, year_in, pair_at}
 use Rattle.mm_definitions.proofs.StampBack.{text_of, shown_parts, same_day, day_of}
 use Rattle.mm_laws.proofs.StampFound.{stamp_is}
-use Rattle.mm_definitions.proofs.Dates.{same_pos}
 
 pub one_stamp : (moment : ℕ) (text other : Text) → IsStamp moment text → IsStamp moment other → text ≡ other
 one_stamp moment text other s t = s.spelled ∙ text_of s.date t.date (moment % 86400000) (epoch_day_injective s.date t.date (s.day ∙ sym t.day)) ∙ sym t.spelled

@@ -2,7 +2,7 @@
 use Rattle.std.proofs.Common.{◌≡◌, ℤ, pos, ◌+ℤ◌, ◌*ℤ◌, ◌<ℤ◌, Bool, true, false, not, ◌&&◌, ◌||◌, int_lt, refl, sym, ap, subst, ◌∙◌, inl, inr, arith}
 use Rattle.std.proofs.lemmas.Int.{ints}
 use Rattle.std.specs.FinMap.{FinMap, get, insert}
-use Rattle.std.proofs.lemmas.Bool.{not-false}
+use Rattle.std.proofs.lemmas.Bool.{not-false, and_parts}
 use Rattle.mm_definitions.specs.Keys.{Text, same_text, same_number, Level, level, level_cmp}
 use Rattle.mm_definitions.specs.Parts.{Has}
 use Rattle.mm_definitions.specs.Package.{Package, Grid, Kinds, HasKind, has_kind}
@@ -12,7 +12,7 @@ use Rattle.mm_definitions.specs.declared.commands.Kind.TheVariants.{Two}
 use Rattle.mm_definitions.proofs.Parts.{no_entry, after_put, same_itself}
 use Rattle.mm_definitions.proofs.KeyLaws.{levels, texts, numbers}
 use Rattle.mm_laws.proofs.Reasons.{and_false}
-use Rattle.mm_laws.proofs.KindFacts.{are_same, both_true, has_kind_holds}
+use Rattle.mm_laws.proofs.KindFacts.{are_same, has_kind_holds}
 
 pub below : (a b : ℤ) → int_lt a b ≡ true → a <ℤ b
 below a b e = grind (arith, ints)
@@ -28,18 +28,18 @@ or_not true b e t = e
 or_not false b e t = absurd (let f : false ≡ true = t in cc)
 
 finer_tells : (g h : Grid) → is_finer g h ≡ true → IsFiner g h
-finer_tells g h e = let p = both_true _ _ e in record { across = below _ _ p.0; down = below _ _ p.1 }
+finer_tells g h e = let p = and_parts _ _ e in record { across = below _ _ p.0; down = below _ _ p.1 }
 
 double_tells : (g h : Grid) → is_double g h ≡ true → IsHalved g h
-double_tells g h e = let p = both_true _ _ e in record { across = are_same numbers g.pixel_x_size (pos 2 *ℤ h.pixel_x_size) p.0; down = are_same numbers g.pixel_y_size (pos 2 *ℤ h.pixel_y_size) p.1 }
+double_tells g h e = let p = and_parts _ _ e in record { across = are_same numbers g.pixel_x_size (pos 2 *ℤ h.pixel_x_size) p.0; down = are_same numbers g.pixel_y_size (pos 2 *ℤ h.pixel_y_size) p.1 }
 
 -- what the test says of two matrices, the first at the lower zoom
 pub finer_above : (halved : Bool) (low high : ℤ) (g h : Grid) → suits_above halved low g high h ≡ true → IsFiner g h
-finer_above halved low high g h e = finer_tells g h (both_true _ _ e).0
+finer_above halved low high g h e = finer_tells g h (and_parts _ _ e).0
 
 pub halved_above : (low high : ℤ) (g h : Grid) → suits_above true low g high h ≡ true → high ≡ low +ℤ pos 1 → IsHalved g h
 halved_above low high g h e next =
-    double_tells g h (or_not (same_number high (low +ℤ pos 1)) (is_double g h) (both_true _ _ e).1 (ap (same_number high) (sym next) ∙ same_itself numbers high))
+    double_tells g h (or_not (same_number high (low +ℤ pos 1)) (is_double g h) (and_parts _ _ e).1 (ap (same_number high) (sym next) ∙ same_itself numbers high))
 
 -- the matrix suits each that the table has
 abbrev pub SuitsAll : FinMap level_cmp Grid → Text → ℤ → Grid → Bool → Type 0
@@ -54,10 +54,10 @@ suits_unless_clashes p table zoom g none other h e =
 module _ (matrices : FinMap level_cmp Grid) (table : Text) (zoom : ℤ) (g : Grid) (halved : Bool) (all : SuitsAll matrices table zoom g halved) where
   -- what the test says where the other zoom is higher, and where it is lower
   over : (other : ℤ) (h : Grid) → Has matrices (level table other) h → zoom <ℤ other → suits_above halved zoom g other h ≡ true
-  over other h e up = or_not _ _ (both_true _ _ (all other h e)).0 (is_below zoom other up)
+  over other h e up = or_not _ _ (and_parts _ _ (all other h e)).0 (is_below zoom other up)
 
   under : (other : ℤ) (h : Grid) → Has matrices (level table other) h → other <ℤ zoom → suits_above halved other h zoom g ≡ true
-  under other h e down = or_not _ _ (both_true _ _ (all other h e)).1 (is_below other zoom down)
+  under other h e down = or_not _ _ (and_parts _ _ (all other h e)).1 (is_below other zoom down)
 
   pub still_finer : HigherIsFiner matrices → HigherIsFiner (insert matrices (level table zoom) g)
   still_finer h t low high a b e f up =

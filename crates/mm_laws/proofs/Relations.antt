@@ -1,8 +1,8 @@
 -- Relations and editions that are put or removed keep the rules.
-use Rattle.std.proofs.Common.{◌≡◌, ◌≢◌, ℕ, ◌≤◌, ℤ, Bool, true, false, not, ◌&&◌, ◌||◌, [], Option, Some}
+use Rattle.std.proofs.Common.{◌≡◌, ◌≢◌, ℕ, ◌≤◌, ℤ, Bool, true, false, not, ◌&&◌, ◌||◌, Option, Some}
 use Rattle.std.proofs.Common.{None, codes, refl, sym, ap, subst, ◌∙◌, ◌⊎◌, inl, inr, is_some, zero-le}
 use Rattle.std.specs.FinMap.{get, contains_key, insert, remove, retain_keys}
-use Rattle.std.proofs.lemmas.Bool.{and_from, not-false}
+use Rattle.std.proofs.lemmas.Bool.{and_from, not-false, and_parts}
 use Rattle.mm_definitions.specs.Keys.{Text, Pairing, PieceKey, piece, Extension}
 use Rattle.mm_definitions.specs.Parts.{Each, Has, Stands}
 use Rattle.mm_definitions.specs.Package.{Package, Kinds, RelationsPart, HasKind, has_kind, Relation}
@@ -17,33 +17,27 @@ use Rattle.mm_definitions.specs.declared.commands.Kind.TheVariants as kinds
 use Rattle.mm_definitions.specs.declared.commands.RelationName.{RelationName}
 use Rattle.mm_definitions.specs.declared.commands.RelationName.TheVariants as names
 use Rattle.mm_definitions.specs.declared.commands.Command.TheVariants as commands
-use Rattle.mm_definitions.proofs.Parts.{each_put, each_remove, each_retain, stands_after_put, after_put, after_remove}
+use Rattle.mm_definitions.proofs.Parts.{each_put, each_remove, each_retain, stands_after_put, after_put, after_remove, same_some}
 use Rattle.mm_definitions.proofs.Parts.{after_retain, kept, kept_by_new, at_put, beside_remove, either_false}
 use Rattle.mm_definitions.proofs.Parts.{not_none, none_of, some_of}
 use Rattle.mm_definitions.proofs.CleanTexts.{ascii_is_clean, name_is_clean}
 use Rattle.mm_definitions.proofs.KeyLaws.{texts, pairing_keys, piece_keys, extension_keys}
 use Rattle.mm_laws.proofs.Kept.{Keeps}
 use Rattle.mm_laws.proofs.Reasons.{none_holds, stands_where}
-use Rattle.mm_laws.proofs.KindFacts.{differ, both_true, either_true, has_kind_tells}
+use Rattle.mm_laws.proofs.KindFacts.{differ, either_true, has_kind_tells}
 use Rattle.mm_laws.proofs.Tables.{put_once}
 use Rattle.mm_laws.proofs.OnePart.{with_editions, with_relations}
 use Rattle.mm_laws.proofs.Counted.{no_number}
 use Rattle.mm_laws.proofs.Dropped.{other_tells, other_holds}
 
-name_of : Option Text → Text
-name_of None = []
-name_of (Some t) = t
-
 same_mapping : (a b : Text) → mapping_extension a ≡ mapping_extension b → a ≡ b
-unfolding name_of
-same_mapping a b e = ap (λ (x : Extension). name_of x.table) e
+same_mapping a b e = same_some (ap (λ (x : Extension). x.table) e)
 
 pub own_name : IsName (codes "gpkgext_relations") → ⊥
 own_name n = let f : false ≡ true = n.own in cc
 
 not_general : (mapping : Text) → IsName mapping → general_extension ≡ mapping_extension mapping → ⊥
-unfolding name_of
-not_general mapping named e = own_name (subst IsName (sym (ap (λ (x : Extension). name_of x.table) e)) named)
+not_general mapping named e = own_name (subst IsName (sym (same_some (ap (λ (x : Extension). x.table) e))) named)
 
 relation_is_clean : (name : RelationName) → IsClean (relation_text name)
 relation_is_clean names.Media = ascii_is_clean (relation_text names.Media) refl refl
@@ -76,7 +70,7 @@ relation_put mapping base related name profile p moment stamp h within low is no
     let base_there = not-false (contains_key p.contents base) ends.0 in
     let related_there = not-false (contains_key p.contents related) ends.1 in
     let free = either_false (contains_key p.contents mapping) (contains_key p.relations mapping) r.1.0 in
-    let kinds_suit = both_true (is_plain p base) (has_kind p.kinds related (related_kind name))
+    let kinds_suit = and_parts (is_plain p base) (has_kind p.kinds related (related_kind name))
     (stands_where (contains_key p.contents base && contains_key p.contents related)
     (is_plain p base && has_kind p.kinds related (related_kind name)) r.1.1.0
     (and_from (contains_key p.contents base) (contains_key p.contents related) base_there related_there)) in

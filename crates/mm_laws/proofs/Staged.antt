@@ -5,6 +5,7 @@ use Rattle.std.proofs.lemmas.Int.{ints}
 use Rattle.std.proofs.lemmas.Bool.Decides.{nat_tests}
 use Rattle.std.specs.FinMap.{get, contains_key, insert}
 use Rattle.std.proofs.lemmas.Bool.{not-false}
+use Rattle.mm_definitions.proofs.Integers.{above_zero}
 use Rattle.mm_definitions.specs.Keys.{Text, same_text, same_number, PieceKey, piece}
 use Rattle.mm_definitions.specs.Parts.{Has, Stands}
 use Rattle.mm_definitions.specs.Package.{PieceRow, PiecesPart, open_state}
@@ -35,17 +36,17 @@ within_old n u z number e h a b = omega (arith, ints)
 numbered_more : (pieces : PiecesPart) (edition : Text) (number : ℤ) (u n : ℕ) (row : PieceRow) → number ≡ pos u → pos 1 ≤ℤ number
     → number ≤ℤ pos (n + 1) → IsNumbered pieces edition n
     → IsNumbered (insert pieces (piece edition number) row) edition (max n u)
-numbered_more pieces edition number u n row whole low high h z =
+numbered_more pieces edition number u n row above_zero low high h z =
     let key = piece edition number in (
       λ s.
           let v = some_of (get (insert pieces key row) (piece edition z)) s in
           elim (after_put piece_keys pieces key row (piece edition z) v.0 v.1) as (λ _. IsFrom (pos 1) (pos (max n u)) z) [
-            | inl x ↦ let e : z ≡ number = ap (λ (k : PieceKey). k.number) x.0 in (subst (λ y. pos 1 ≤ℤ y) (sym e) low, within_new n u z number whole e)
+            | inl x ↦ let e : z ≡ number = ap (λ (k : PieceKey). k.number) x.0 in (subst (λ y. pos 1 ≤ℤ y) (sym e) low, within_new n u z number above_zero e)
             | inr x ↦ let range = (h z).0 (ap is_some x.1) in (range.0, within_more n u z range.1)
           ],
       λ range. elim (same_key numbers z number) as (λ _. Stands (insert pieces key row) (piece edition z)) [
         | inl e ↦ ap is_some (ap (λ y. get (insert pieces key row) (piece edition y)) e.0 ∙ at_put piece_keys pieces key row)
-        | inr e ↦ stands_after_put piece_keys pieces key row (piece edition z) ((h z).1 (range.0, within_old n u z number whole high range.1 e.0))
+        | inr e ↦ stands_after_put piece_keys pieces key row (piece edition z) ((h z).1 (range.0, within_old n u z number above_zero high range.1 e.0))
       ],
     )
 
@@ -79,9 +80,6 @@ and_assoc : (a b c : Bool) → ((a && b) && c) ≡ false → a ≡ true → (b &
 and_assoc true b c e t = e
 and_assoc false b c e t = absurd (let f : false ≡ true = t in cc)
 
-whole : (number : ℤ) → pos 1 ≤ℤ number → number ≡ pos (unsigned_abs number)
-whole number h = omega (arith, ints, h)
-
 pub stage : (edition : Text) (number : ℤ) (q : Piece) → Keeps (commands.Stage edition number q)
 stage edition number q profile p moment stamp h within low is none =
     let r = none_holds (own_reasons p (commands.Stage edition number q)) none in
@@ -96,7 +94,7 @@ stage edition number q profile p moment stamp h within low is none =
     (int_le number (pos (piece_count p edition)) && not (has_equal_piece p edition number q))
     (and_false (is_open p edition) _ r.1.0 opened)).0) in
     let u = unsigned_abs number in
-    let is_whole : number ≡ pos u = whole number within.1.0 in
+    let is_whole : number ≡ pos u = above_zero number within.1.0 in
     let room : max n.0 u ≤ MostPieces = still_room n.0 u number n.1 is_whole next (ap (λ c. same_number number (pos (c + 1)) && (c == MostPieces)) (sym count)
     ∙ and_assoc (is_open p edition) (same_number number (pos (piece_count p edition + 1))) (piece_count p edition == MostPieces) r.1.1.0 opened) in
     let key = piece edition number in

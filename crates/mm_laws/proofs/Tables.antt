@@ -20,7 +20,7 @@ use Rattle.mm_definitions.specs.declared.commands.Step.TheVariants as steps
 use Rattle.mm_definitions.specs.declared.commands.PlainKind.{PlainKind}
 use Rattle.mm_definitions.specs.declared.commands.PlainKind.TheVariants as plain
 use Rattle.mm_definitions.specs.declared.commands.Command.TheVariants as commands
-use Rattle.mm_definitions.proofs.Parts.{each_put, stands_after_put, after_put, kept_by_new, at_put, beside_put}
+use Rattle.mm_definitions.proofs.Parts.{each_put, stands_after_put, after_put, kept_by_new, at_put, beside_put, lacks}
 use Rattle.mm_definitions.proofs.Parts.{no_entry, either_false, same_itself, same_key, none_of}
 use Rattle.mm_definitions.proofs.CleanTexts.{ascii_is_clean, name_is_clean}
 use Rattle.mm_definitions.proofs.KeyLaws.{numbers, texts, extension_keys}
@@ -47,15 +47,12 @@ module _ (profile : Profile) (p : Package) (h : Meets profile p) (table : Text) 
   abbrev pub next_kinds : Kinds
   next_kinds = insert p.kinds table (kind_text kind)
 
-  not_there : Stands p.contents table → ⊥
-  not_there s = let f : true ≡ false = sym s ∙ free in cc
-
   -- the registry and the matrix sets lack it too
   pub no_kind : (k : Text) → Has p.kinds table k → ⊥
-  no_kind k e = not_there (h.q5.of_kinds table k e)
+  no_kind k e = lacks p.contents table free (h.q5.of_kinds table k e)
 
   pub no_set : (s : MatrixSet) → Has p.sets table s → ⊥
-  no_set s e = not_there (h.q5.of_sets table s e)
+  no_set s e = lacks p.contents table free (h.q5.of_sets table s e)
 
   absent : {X : Type 0} (m : FinMap text_cmp X) → ((x : X) → Has m table x → ⊥) → contains_key m table ≡ false
   absent m none = elim (get m table) as (λ v. get m table ≡ v → is_some v ≡ false) [ None ↦ λ e. refl | Some x ↦ λ e. absurd (none x e) ] refl

@@ -17,6 +17,7 @@ use Rattle.sql_forms.specs.Numeral.{fits_i64}
 use Rattle.sql_forms.specs.Term.{col}
 use Rattle.sql_forms.specs.Query.{inner, left, end}
 use Rattle.sql_forms.specs.Rules.{equal}
+use Rattle.mm_definitions.proofs.Integers.{above_zero, natural}
 use Rattle.mm_definitions.specs.Bounds.{Profile, IsName, IsMatrixSide, IsTileSide, IsId, IsFrom, IsZoom, IsTilePlace}
 use Rattle.mm_definitions.specs.Bounds.{IsLong, IsTileBytes, IsMediaBytes, MostPieces}
 use Rattle.mm_definitions.specs.Keys.{Text, PieceKey, piece}
@@ -141,43 +142,22 @@ not_long most h = let low : 1 ≤ 0 = h.0 in omega (arith, low)
 abbrev shown : PieceRow → Value → Row
 shown v data_shown = Words v.kind ∷ Words v.name ∷ Int v.k1 ∷ Int v.k2 ∷ Int v.k3 ∷ Int v.k4 ∷ Int v.k5 ∷ Int v.k6 ∷ Int v.k7 ∷ Words v.t1 ∷ Words v.t2 ∷ data_shown ∷ []
 
-natural : (z : ℤ) → pos 0 ≤ℤ z → z ≡ pos (unsigned_abs z)
-natural z low = omega (arith, ints, low)
+-- no number but the first three
+abbrev HasThree : PieceRow → Type 0
+HasThree v = (v.k4 ≡ pos 0) × (v.k5 ≡ pos 0) × (v.k6 ≡ pos 0) × (v.k7 ≡ pos 0)
 
 -- a row with these columns
-same_row : (v : PieceRow) (kind : Text) (k1 k2 k3 : ℤ) (t1 t2 : Text) (bytes : List ℕ) → v.kind ≡ kind → v.k1 ≡ k1 → v.k2 ≡ k2 → v.k3 ≡ k3
-    → v.k4 ≡ pos 0 → v.k5 ≡ pos 0 → v.k6 ≡ pos 0 → v.k7 ≡ pos 0 → v.t1 ≡ t1 → v.t2 ≡ t2 → v.bytes ≡ bytes
+same_row : {kind : Text} {k1 k2 k3 : ℤ} {t1 t2 : Text} {bytes : List ℕ} (v : PieceRow) → HasThree v → v.kind ≡ kind → v.k1 ≡ k1 → v.k2 ≡ k2
+    → v.k3 ≡ k3 → v.t1 ≡ t1 → v.t2 ≡ t2 → v.bytes ≡ bytes
     → v ≡ record { kind = kind; name = v.name; k1 = k1; k2 = k2; k3 = k3; k4 = pos 0; k5 = pos 0; k6 = pos 0; k7 = pos 0; t1 = t1; t2 = t2; bytes = bytes }
-same_row v kind k1 k2 k3 t1 t2 bytes a b c d e f g h s t u =
-    λ i. record {
-      kind = a i;
-      name = v.name;
-      k1 = b i;
-      k2 = c i;
-      k3 = d i;
-      k4 = e i;
-      k5 = f i;
-      k6 = g i;
-      k7 = h i;
-      t1 = s i;
-      t2 = t i;
-      bytes = u i;
-    }
+same_row v (e, f, g, h) a b c d s t u =
+    λ i. record { kind = a i; name = v.name; k1 = b i; k2 = c i; k3 = d i; k4 = e i; k5 = f i; k6 = g i; k7 = h i; t1 = s i; t2 = t i; bytes = u i }
 
 to_content : (profile : Profile) (v : PieceRow) (d : Value) → IsDataOf v.bytes d → IsName v.name → IsContent (shown v d) → IsSpelled profile v
 to_content profile v d data_is named h = go h.1
   where
-    z4 : v.k4 ≡ pos 0
-    z4 = same_some h.0.0
-
-    z5 : v.k5 ≡ pos 0
-    z5 = same_some h.0.1
-
-    z6 : v.k6 ≡ pos 0
-    z6 = same_some h.0.2
-
-    z7 : v.k7 ≡ pos 0
-    z7 = same_some h.0.3
+    three : HasThree v
+    three = (same_some h.0.0, same_some h.0.1, same_some h.0.2, same_some h.0.3)
 
     no_bytes : is_there d ≡ false → v.bytes ≡ []
     no_bytes = none_from v.bytes d data_is
@@ -186,7 +166,7 @@ to_content profile v d data_is named h = go h.1
     go (inl (inl (is, (zoom, column, row), (a, b), bytes))) =
         let z = natural v.k1 zoom.0 in let c = natural v.k2 column.0 in let r = natural v.k3 row.0 in (
           Tile v.name (unsigned_abs v.k1) (unsigned_abs v.k2) (unsigned_abs v.k3) v.bytes,
-          same_row v _ _ _ _ _ _ _ (same_some is) z c r z4 z5 z6 z7 (same_some a) (same_some b) refl,
+          same_row v three (same_some is) z c r (same_some a) (same_some b) refl,
           (
             named,
             subst IsZoom z zoom,
@@ -197,37 +177,35 @@ to_content profile v d data_is named h = go h.1
           tt,
         )
     go (inl (inr (inl (is, id, amount, zero_is, title, note, none)))) =
-        (RowPiece v.name v.k1 v.t1 v.t2 v.k2, same_row v _ _ _ _ _ _ _ (same_some is) refl refl (same_some zero_is) z4 z5 z6 z7 refl refl (no_bytes none), (named, id, title.1, note.1, amount), tt)
+        (RowPiece v.name v.k1 v.t1 v.t2 v.k2, same_row v three (same_some is) refl refl (same_some zero_is) refl refl (no_bytes none),
+          (named, id, title.1, note.1, amount), tt)
     go (inl (inr (inr (inl (is, (id, a, b), content_type, c, bytes))))) = (
       Media v.name v.k1 v.t1 v.bytes,
-      same_row v _ _ _ _ _ _ _ (same_some is) refl (same_some a)
-          (same_some b) z4 z5 z6 z7 refl (same_some c) refl,
+      same_row v three (same_some is) refl (same_some a) (same_some b) refl (same_some c) refl,
       (named, id, content_type.1, bytes_from v.bytes d data_is IsMediaBytes bytes),
       tt,
     )
     go (inl (inr (inr (inr (is, (base, related, a), (b, c), none))))) =
-        (Map v.name v.k1 v.k2, same_row v _ _ _ _ _ _ _ (same_some is) refl refl (same_some a) z4 z5 z6 z7 (same_some b) (same_some c) (no_bytes none), (named, base, related), tt)
+        (Map v.name v.k1 v.k2, same_row v three (same_some is) refl refl (same_some a) (same_some b) (same_some c) (no_bytes none), (named, base, related), tt)
     go (inr (inl (is, (zoom, column, row), (a, b), none))) =
         let z = natural v.k1 zoom.0 in let c = natural v.k2 column.0 in let r = natural v.k3 row.0 in (
           TileDrop v.name (unsigned_abs v.k1) (unsigned_abs v.k2) (unsigned_abs v.k3),
-          same_row v _ _ _ _ _ _ _ (same_some is) z c r z4 z5 z6 z7 (same_some a) (same_some b) (no_bytes none),
+          same_row v three (same_some is) z c r (same_some a) (same_some b) (no_bytes none),
           (named, subst IsZoom z zoom, subst IsTilePlace c column, subst IsTilePlace r row),
           tt,
         )
     go (inr (inr (inl (is, (id, a, b), (c, d), none)))) =
-        (RowDrop v.name v.k1, same_row v _ _ _ _ _ _ _ (same_some is) refl (same_some a) (same_some b) z4 z5 z6 z7 (same_some c) (same_some d) (no_bytes none), (named, id), tt)
+        (RowDrop v.name v.k1, same_row v three (same_some is) refl (same_some a) (same_some b) (same_some c) (same_some d) (no_bytes none), (named, id), tt)
     go (inr (inr (inr (inl (is, (id, a, b), (c, d), none))))) =
-        (MediaDrop v.name v.k1, same_row v _ _ _ _ _ _ _ (same_some is) refl (same_some a) (same_some b) z4 z5 z6 z7 (same_some c) (same_some d) (no_bytes none), (named, id), tt)
+        (MediaDrop v.name v.k1, same_row v three (same_some is) refl (same_some a) (same_some b) (same_some c) (same_some d) (no_bytes none), (named, id), tt)
     go (inr (inr (inr (inr (is, (base, related, a), (b, c), none))))) =
-        (MapDrop v.name v.k1 v.k2, same_row v _ _ _ _ _ _ _ (same_some is) refl refl (same_some a) z4 z5 z6 z7 (same_some b) (same_some c) (no_bytes none), (named, base, related), tt)
+        (MapDrop v.name v.k1 v.k2, same_row v three (same_some is) refl refl (same_some a) (same_some b) (same_some c) (no_bytes none), (named, base, related), tt)
 
 matrix_row : (v : PieceRow) (k1 k2 k3 k4 k5 : ℤ) → v.kind ≡ codes "matrix" → v.k1 ≡ k1 → v.k2 ≡ k2 → v.k3 ≡ k3 → v.k4 ≡ k4 → v.k5 ≡ k5 → v.t1 ≡ []
     → v.t2 ≡ [] → v.bytes ≡ []
     → v ≡ record { kind = codes "matrix"; name = v.name; k1 = k1; k2 = k2; k3 = k3; k4 = k4; k5 = k5; k6 = v.k6; k7 = v.k7; t1 = []; t2 = []; bytes = [] }
-matrix_row v k1 k2 k3 k4 k5 a b c d e f s t u = λ i. record { kind = a i; name = v.name; k1 = b i; k2 = c i; k3 = d i; k4 = e i; k5 = f i; k6 = v.k6; k7 = v.k7; t1 = s i; t2 = t i; bytes = u i }
-
-above_zero : (z : ℤ) → pos 1 ≤ℤ z → z ≡ pos (unsigned_abs z)
-above_zero z low = omega (arith, ints, low)
+matrix_row v k1 k2 k3 k4 k5 a b c d e f s t u =
+    λ i. record { kind = a i; name = v.name; k1 = b i; k2 = c i; k3 = d i; k4 = e i; k5 = f i; k6 = v.k6; k7 = v.k7; t1 = s i; t2 = t i; bytes = u i }
 
 to_matrix : (profile : Profile) (v : PieceRow) (d : Value) → IsDataOf v.bytes d → IsName v.name → IsMatrix profile (shown v d) → IsSpelled profile v
 to_matrix profile v d data_is named (takes, is, zoom, (mw, mh, tw, th), px, py, (a, b), none) =
@@ -252,7 +230,7 @@ of_piece profile (Tile table zoom column row bytes) d data_is w takes =
           refl,
           (w.1, w.2, w.3),
           (refl, refl),
-          bytes_to bytes d data_is IsTileBytes (not_long 1048576) w.4,
+          bytes_to bytes d data_is IsTileBytes (not_long _) w.4,
         )),
       );
     }
@@ -288,7 +266,7 @@ of_piece profile (Media table id content_type bytes) d data_is w takes =
               (w.1, refl, refl),
               (content_type_utf8 content_type w.2, w.2),
               refl,
-              bytes_to bytes d data_is IsMediaBytes (not_long 4194304) w.3,
+              bytes_to bytes d data_is IsMediaBytes (not_long _) w.3,
             )))),
       );
     }

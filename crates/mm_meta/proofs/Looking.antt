@@ -1,6 +1,6 @@
 -- What the query of the profile's table tells.
-use Rattle.std.proofs.Common.{◌≡◌, ◌≢◌, ◌⊎◌, inl, inr, ℤ, pos, true, false, true≢false, List, [], ◌∷◌, Option, Some, None, Result, Ok, Err, IsTrue, refl, sym, ap, subst, ◌∙◌, arith}
-use Rattle.std.specs.Prelude.{if◌then◌else◌, IsSome}
+use Rattle.std.proofs.Common.{◌≡◌, ◌≢◌, ◌⊎◌, inl, inr, ℤ, pos, true, false, true≢false, List, [], ◌∷◌, Option, None, Result, Ok, Err, IsTrue, refl, sym, ap, subst, ◌∙◌, arith}
+use Rattle.std.specs.Prelude.{if◌then◌else◌}
 use Rattle.std.specs.List.Sorted.{IsPermutation}
 use Rattle.std.proofs.lemmas.List.Sorted.{length_permutation}
 use Rattle.sqlite.specs.declared.error.Error.{Error}
@@ -25,6 +25,7 @@ use Rattle.sql_forms.proofs.Lists.{same_value, has_permuted}
 use Rattle.sql_forms.proofs.Selects.{selects_all}
 use Rattle.mm_store.specs.Compiled.{profile_rows}
 use Rattle.mm_store.proofs.Selecting as statement
+use Rattle.mm_definitions.proofs.Parts.{never_some}
 use Rattle.mm_definitions.specs.Bounds.{current}
 use Rattle.mm_definitions.specs.Package.{Package}
 use Rattle.mm_definitions.specs.declared.answers.Open.{Open}
@@ -59,10 +60,6 @@ returns_nothing schema c = elim (reads_listing schema profile_rows) as (λ b. (i
   | true ↦ λ h. absurd (let e = sym never_listed ∙ h in cc)
   | false ↦ λ h. from_compiled schema c h
 ]
-
-never_some : {X : Type 0} (o : Option X) → o ≡ None → IsSome o → ⊥
-never_some None is h = absurd (let e : false ≡ true = h in cc)
-never_some (Some x) is h = absurd cc
 
 module _ (old new : State) where
   pub quiet : Survives old new (CommitsShowing profile_rows [] old) → CommitsNothing old new

@@ -7,7 +7,7 @@ use Rattle.std.specs.Ordering.{MatchOrdering, is_lt, is_gt, int_cmp}
 use Rattle.std.specs.Cmp.{int_ranks}
 use Rattle.std.specs.List.{list_any}
 use Rattle.std.specs.FinMap.{FinMap, get}
-use Rattle.std.proofs.lemmas.Bool.{both_ways, false_from_ne_true}
+use Rattle.std.proofs.lemmas.Bool.{both_ways, false_from_ne_true, and_parts}
 use Rattle.sqlite.specs.declared.types.Value.{Value}
 use Rattle.sqlite.specs.declared.types.Value.TheVariants.{Int, Text as Words}
 use Rattle.sql_forms.specs.Collation.TheVariants.{Binary}
@@ -30,6 +30,7 @@ use Rattle.sql_forms.proofs.Keys.{as_truth, equal_text, columns_are}
 use Rattle.sql_forms.proofs.Lists.{and_true}
 use Rattle.sql_forms.proofs.Orders.{by_column}
 use Rattle.sql_forms.proofs.Selects.{shows}
+use Rattle.mm_definitions.proofs.Integers.{not_less}
 use Rattle.mm_definitions.specs.Keys.{Text, same_text, Level, level, level_cmp}
 use Rattle.mm_definitions.specs.Parts.{Has, Stands}
 use Rattle.mm_definitions.specs.Package.{Grid}
@@ -38,7 +39,7 @@ use Rattle.mm_definitions.specs.Neighbours.{IsNearestBelow, IsNearestAbove, zoom
 use Rattle.mm_definitions.specs.declared.commands.Matrix.{Matrix}
 use Rattle.mm_definitions.proofs.Parts.{some_of, same_itself}
 use Rattle.mm_definitions.proofs.KeyLaws.{texts}
-use Rattle.mm_laws.proofs.KindFacts.{are_same, both_true}
+use Rattle.mm_laws.proofs.KindFacts.{are_same}
 use Rattle.mm_store.specs.Rows.{past_rowid, grid_row}
 use Rattle.mm_store.proofs.Keys.{same_int}
 use Rattle.mm_meta.specs.Shown.{ShowsZoomed, GivesZoomed}
@@ -58,14 +59,6 @@ less_is a b h = go (int_cmp a b) (int_ranks a b) h
     go Less m t = m
     go Equal m t = absurd_less t
     go Greater m t = absurd_less t
-
-not_less : (a b : ℤ) → is_lt (int_cmp a b) ≡ false → b ≤ℤ a
-not_less a b h = go (int_cmp a b) (int_ranks a b) h
-  where
-    go : (o : Ordering) → MatchOrdering o (a <ℤ b) (a ≡ b) (b <ℤ a) → is_lt o ≡ false → b ≤ℤ a
-    go Less m t = absurd_more t
-    go Equal m t = omega (arith, ints)
-    go Greater m t = omega (arith, ints)
 
 is_less : (a b : ℤ) → a <ℤ b → is_lt (int_cmp a b) ≡ true
 is_less a b h = go (int_cmp a b) (int_ranks a b)
@@ -126,7 +119,7 @@ module _ (rows : List Row) (m : FinMap level_cmp Grid) (h : Holds past_rowid gri
       → Has m (level table (pos entry.0)) (grid entry.1) × (near (pos entry.0) ≡ true) × ((other : ℤ) → Stands m (level table other) → near other ≡ true → before other (pos entry.0) ≡ false)
   first_near entry x it f =
       let at = h.sound f.0 f.1 in
-      let both = both_true (same_text at.0.table table) (near at.0.zoom) (sym (tells f.0 at.0 at.1 at.3) ∙ f.2) in
+      let both = and_parts (same_text at.0.table table) (near at.0.zoom) (sym (tells f.0 at.0 at.1 at.3) ∙ f.2) in
       let table_is : at.0.table ≡ table = are_same texts at.0.table table both.0 in
       let row_is : x ≡ zoomed_row at.0 at.1 = f.3 ∙ shown f.0 at.0 at.1 at.3 in
       let zoom_is : at.0.zoom ≡ pos entry.0 = same_int (sym (ap (λ (r : Row). column r 0) row_is) ∙ it.0) in

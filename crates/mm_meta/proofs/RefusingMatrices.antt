@@ -1,7 +1,7 @@
 -- For which number a matrix is refused, from what was looked up.
 use Rattle.std.proofs.Common.{◌≡◌, inl, inr, ℕ, pos, Bool, true, false, not, ◌&&◌, ◌||◌, [], ◌∷◌, Option, Some, None, refl, sym, ap, ◌∙◌}
 use Rattle.std.specs.FinMap.{get, contains_key}
-use Rattle.std.proofs.lemmas.Bool.{false_from_ne_true, true_from_ne_false}
+use Rattle.std.proofs.lemmas.Bool.{true_from_ne_false}
 use Rattle.mm_definitions.specs.Bounds.{Profile}
 use Rattle.mm_definitions.specs.Keys.{Text, same_text, level}
 use Rattle.mm_definitions.specs.Parts.{Has, at_value}
@@ -16,11 +16,12 @@ use Rattle.mm_definitions.specs.declared.commands.Matrix.{Matrix}
 use Rattle.mm_definitions.specs.declared.commands.Step.{Step}
 use Rattle.mm_definitions.specs.declared.commands.Step.TheVariants as steps
 use Rattle.mm_definitions.specs.declared.commands.Command.TheVariants as commands
-use Rattle.mm_definitions.proofs.Parts.{some_of, none_of, not_none}
+use Rattle.mm_definitions.proofs.Parts.{none_of}
 use Rattle.mm_laws.proofs.Clashes.{clash_by_nearest}
 use Rattle.mm_laws.proofs.Reasons.{none_holds, and_false, is_suited}
 use Rattle.mm_definitions.proofs.FirstReason.{first_of}
 use Rattle.mm_meta.specs.Shown.{IsPlainKind}
+use Rattle.mm_layout.proofs.Registered.{lacks_contents, has_contents}
 
 module _ (p : Package) (table : Text) (zoom : ℕ) (m : Matrix) where
   abbrev why : Option ℕ
@@ -59,20 +60,14 @@ module _ (p : Package) (table : Text) (zoom : ℕ) (m : Matrix) where
   is_plain kind (inr e) = ap (λ k. pyramid_by (Some (kind_text k))) e
 
   module _ (profile : Profile) (meets : Meets profile p) where
-    unregistered : get p.kinds table ≡ None → contains_key p.contents table ≡ false
-    unregistered none = false_from_ne_true _ (λ stands. let c = some_of (get p.contents table) stands in let k = meets.q5.registered table c.0 c.1 in not_none k.1 none)
-
     pub matrix_25 : get p.kinds table ≡ None → Some 25 ≡ why
     matrix_25 none =
-        sym (ap (λ b. of_matrix b pyramid there misfit clash) (unregistered none)
+        sym (ap (λ b. of_matrix b pyramid there misfit clash) (lacks_contents profile p meets table none)
         ∙ first_of 25 ((26, false) ∷ (30, pyramid && there) ∷ (31, pyramid && misfit) ∷ (32, pyramid && clash) ∷ []) refl)
 
     module _ (kind : Kind) (has : get p.kinds table ≡ Some (kind_text kind)) where
-      stands : contains_key p.contents table ≡ true
-      stands = meets.q5.of_kinds table (kind_text kind) has
-
       pub matrix_26 : IsPlainKind kind → Some 26 ≡ why
-      matrix_26 plain = sym (ap (λ b. of_matrix b pyramid there misfit clash) stands ∙ ap (λ b. of_matrix true b there misfit clash) (ap pyramid_by has ∙ is_plain kind plain))
+      matrix_26 plain = sym (ap (λ b. of_matrix b pyramid there misfit clash) (has_contents profile p meets table kind has) ∙ ap (λ b. of_matrix true b there misfit clash) (ap pyramid_by has ∙ is_plain kind plain))
 
       module _ (step : Step) (is : kind ≡ step_kind step) where
         tiled : is_pyramid p.kinds table ≡ true
@@ -82,7 +77,7 @@ module _ (p : Package) (table : Text) (zoom : ℕ) (m : Matrix) where
         halved = ap (at_value (same_text (kind_text kinds.Two))) (has ∙ ap (λ k. Some (kind_text k)) is) ∙ is_two step
 
         of_pyramid : (b d e : Bool) → of_matrix (contains_key p.contents table) pyramid b d e ≡ of_matrix true true b d e
-        of_pyramid b d e = ap (λ x. of_matrix x pyramid b d e) stands ∙ ap (λ x. of_matrix true x b d e) tiled
+        of_pyramid b d e = ap (λ x. of_matrix x pyramid b d e) (has_contents profile p meets table kind has) ∙ ap (λ x. of_matrix true x b d e) tiled
 
         pub matrix_30 : contains_key p.matrices (level table (pos zoom)) ≡ true → Some 30 ≡ why
         matrix_30 found = sym (of_pyramid there misfit clash ∙ ap (λ b. of_matrix true true b misfit clash) found ∙ first_of 30 ((31, misfit) ∷ (32, clash) ∷ []) refl)

@@ -2,7 +2,7 @@
 use Rattle.std.proofs.Common.{◌≡◌, inl, inr, ℤ, Bool, true, false, cond, ◌&&◌, List, [], ◌∷◌, Some, refl, sym, ap, subst, ◌∙◌}
 use Rattle.std.specs.declared.cmp.Ordering.TheVariants.{Equal}
 use Rattle.std.specs.Ordering.{is_eq, ordering_then, int_cmp}
-use Rattle.std.specs.Cmp.{tied_itself}
+use Rattle.std.specs.Cmp.{tied_itself, Equal-is}
 use Rattle.std.specs.List.{flat_map, list_all, IsDistinct}
 use Rattle.std.specs.FinMap.{get, retain_keys}
 use Rattle.std.proofs.lemmas.Bool.{and_parts, and_from, false_from_ne_true}
@@ -17,7 +17,6 @@ use Rattle.sql_forms.specs.Lists.{Has}
 use Rattle.sql_forms.specs.Maps.{Holds}
 use Rattle.sql_forms.proofs.Keys.{columns_are}
 use Rattle.sql_forms.proofs.Lists.{has_flat, flat_has}
-use Rattle.sql_forms.proofs.Rows.{equal_is}
 use Rattle.mm_definitions.specs.Keys.{Text, text_cmp, same_text, same_number, Pairing, pairing_cmp}
 use Rattle.mm_definitions.specs.Parts.{at_value}
 use Rattle.mm_definitions.specs.Package.{Package, Relation}
@@ -94,7 +93,7 @@ module _ (p : Package) (table : Text) (id : ℤ) where
       ∙ ap (ordering_then (text_cmp a.key.mapping b.key.mapping)) (then-Equal (int_cmp a.key.related_id b.key.related_id) ∙ sym (ap (λ s. ordering_then s (int_cmp a.key.related_id b.key.related_id)) tied))
 
   pub one_key : (o u : Output) (a : IsMate p table id o) (b : IsMate p table id u) → ties o u ≡ true → a.key ≡ b.key
-  one_key o u a b tie = pairing_keys.exact a.key b.key (sym (cmp_is o u a b) ∙ equal_is _ tie)
+  one_key o u a b tie = pairing_keys.exact a.key b.key (sym (cmp_is o u a b) ∙ (Equal-is _).0 tie)
 
   module _ (rels maps : List Row) (hr : Holds past_id relation_row rels p.relations) (hm : Holds past_rowid pairing_row maps p.pairings) where
     pub match_of : (r m : Row) → Has rels r → Has maps m → passing r m ≡ true → IsMatch p table id r m

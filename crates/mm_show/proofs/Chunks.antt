@@ -13,7 +13,7 @@ use Rattle.std.proofs.lemmas.Int.{ints}
 use Rattle.std.proofs.lemmas.List.{length-take, take_all, take-append-drop}
 use Rattle.mm_definitions.specs.Keys.{Text, Item, item, item_cmp, same_text, text_cmp}
 use Rattle.mm_definitions.specs.Package.{AttributeRow, Package}
-use Rattle.mm_definitions.proofs.Listed.{and_both}
+use Rattle.mm_definitions.proofs.Listed.{and_both, and_parts as parts_of}
 use Rattle.mm_definitions.proofs.KeyLaws.{items, numbers, texts}
 use Rattle.mm_definitions.proofs.Parts.{after_retain, at_retain}
 use Rattle.mm_definitions.specs.Bounds.{current}
@@ -51,14 +51,6 @@ ge_tells a b h = go (int_cmp a b) (int_ranks a b) h
 
 -- ---- lists in the order of their keys
 
-first_of : (a b : Bool) → T (a && b) → T a
-first_of true b p = tt
-first_of false b p = absurd p
-
-second_of : (a b : Bool) → T (a && b) → T b
-second_of true b p = p
-second_of false b p = absurd p
-
 less_of : (o : Ordering) → T (is_lt o) → o ≡ Less
 less_of Less p = refl
 less_of Equal p = absurd p
@@ -69,12 +61,12 @@ Entry = Item × AttributeRow
 
 sorted_tail : (front rest : List Entry) → T (is_sorted item_cmp (front ++ rest)) → T (is_sorted item_cmp rest)
 sorted_tail [] rest up = up
-sorted_tail (x ∷ front) rest up = sorted_tail front rest (second_of _ _ up)
+sorted_tail (x ∷ front) rest up = sorted_tail front rest (parts_of _ _ up).1
 
 -- each key of the front is below the one behind it
 below_next : (x : Item) (front : List Entry) (e : Entry) (rest : List Entry) → T (below_all item_cmp x (front ++ e ∷ rest)) → item_cmp x e.0 ≡ Less
-below_next x [] e rest low = less_of _ (first_of _ _ low)
-below_next x (y ∷ front) e rest low = below_next x front e rest (second_of _ _ low)
+below_next x [] e rest low = less_of _ (parts_of _ _ low).0
+below_next x (y ∷ front) e rest low = below_next x front e rest (parts_of _ _ low).1
 
 turned_less : (a b : Item) → item_cmp a b ≡ Less → item_cmp b a ≡ Greater
 turned_less a b less = items.total.antisymm b a ∙ ap ordering_reverse less
@@ -88,17 +80,17 @@ beyond : (front : List Entry) (e : Entry) (rest : List Entry) (q : Item) → T (
     → find item_cmp q (front ++ e ∷ rest) ≡ find item_cmp q rest
 beyond [] e rest q up over = ap (λ o. cond (is_eq o) (Some e.1) (find item_cmp q rest)) over
 beyond (x ∷ front) e rest q up over =
-    let more = greater_than q e.0 x.0 over (below_next x.0 front e rest (first_of _ _ up)) in
-    ap (λ o. cond (is_eq o) (Some x.1) (find item_cmp q (front ++ e ∷ rest))) more ∙ beyond front e rest q (second_of _ _ up) over
+    let more = greater_than q e.0 x.0 over (below_next x.0 front e rest (parts_of _ _ up).0) in
+    ap (λ o. cond (is_eq o) (Some x.1) (find item_cmp q (front ++ e ∷ rest))) more ∙ beyond front e rest q (parts_of _ _ up).1 over
 
 -- a key below all others is not among them
 find_none : (q : Item) (xs : List Entry) → T (below_all item_cmp q xs) → find item_cmp q xs ≡ None
 find_none q [] low = refl
-find_none q (x ∷ xs) low = ap (λ o. cond (is_eq o) (Some x.1) (find item_cmp q xs)) (less_of _ (first_of _ _ low)) ∙ find_none q xs (second_of _ _ low)
+find_none q (x ∷ xs) low = ap (λ o. cond (is_eq o) (Some x.1) (find item_cmp q xs)) (less_of _ (parts_of _ _ low).0) ∙ find_none q xs (parts_of _ _ low).1
 
 -- up to a key nothing is found behind it
 not_beyond : (e : Entry) (rest : List Entry) (q : Item) → T (is_sorted item_cmp (e ∷ rest)) → is_gt (item_cmp q e.0) ≡ false → find item_cmp q rest ≡ None
-not_beyond e rest q up at_most = find_none q rest (under rest (first_of _ _ up))
+not_beyond e rest q up at_most = find_none q rest (under rest (parts_of _ _ up).0)
   where
     step : (x : Item) → item_cmp e.0 x ≡ Less → (o : Ordering) → item_cmp q e.0 ≡ o → is_gt o ≡ false → item_cmp q x ≡ Less
     step x less Less is off = items.total.trans q e.0 x is less
@@ -108,14 +100,14 @@ not_beyond e rest q up at_most = find_none q rest (under rest (first_of _ _ up))
     under : (xs : List Entry) → T (below_all item_cmp e.0 xs) → T (below_all item_cmp q xs)
     under [] low = tt
     under (x ∷ xs) low =
-        and_both _ _ (subst (λ o. T (is_lt o)) (sym (step x.0 (less_of _ (first_of _ _ low)) (item_cmp q e.0) refl at_most)) tt) (under xs (second_of _ _ low))
+        and_both _ _ (subst (λ o. T (is_lt o)) (sym (step x.0 (less_of _ (parts_of _ _ low).0) (item_cmp q e.0) refl at_most)) tt) (under xs (parts_of _ _ low).1)
 
 -- an entry is found by its key
 found_at : (front : List Entry) (e : Entry) (rest : List Entry) → T (is_sorted item_cmp (front ++ e ∷ rest)) → find item_cmp e.0 (front ++ e ∷ rest) ≡ Some e.1
 found_at [] e rest up = ap (λ o. cond (is_eq o) (Some e.1) (find item_cmp e.0 rest)) (tied_itself items.total e.0)
 found_at (x ∷ front) e rest up =
-    let over = turned_less x.0 e.0 (below_next x.0 front e rest (first_of _ _ up)) in
-    ap (λ o. cond (is_eq o) (Some x.1) (find item_cmp e.0 (front ++ e ∷ rest))) over ∙ found_at front e rest (second_of _ _ up)
+    let over = turned_less x.0 e.0 (below_next x.0 front e rest (parts_of _ _ up).0) in
+    ap (λ o. cond (is_eq o) (Some x.1) (find item_cmp e.0 (front ++ e ∷ rest))) over ∙ found_at front e rest (parts_of _ _ up).1
 
 -- ---- the rows of a table from an id on
 
@@ -196,7 +188,7 @@ module _ (p : Package) (table : Text) where
 
     rows_behind : rows_on p table next ≡ rest
     rows_behind = same_entries item_cmp items.total items.exact (rows_on p table next) rest (entries_sorted (retain_keys p.rows (is_from_id table next)))
-        (second_of _ _ tail_up) (λ q. by_table q (same_text q.table table) refl)
+        (parts_of _ _ tail_up).1 (λ q. by_table q (same_text q.table table) refl)
       where
         by_table : (q : Item) (b : Bool) → same_text q.table table ≡ b → find item_cmp q (rows_on p table next) ≡ find item_cmp q rest
         by_table q true on = in_table q on

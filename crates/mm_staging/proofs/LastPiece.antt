@@ -1,10 +1,7 @@
 -- The first piece by falling number is the last one, and its number is that of the pieces.
-use Rattle.std.proofs.Common.{◌≡◌, ℕ, zero, suc, ℤ, pos, ◌<ℤ◌, ◌≤ℤ◌, true, false, ◌&&◌, List, [], ◌∷◌, Option, Some, None, is_some, refl, sym, ap, subst, ◌∙◌, arith}
+use Rattle.std.proofs.Common.{◌≡◌, ℕ, zero, suc, ℤ, pos, ◌≤ℤ◌, true, ◌&&◌, List, [], ◌∷◌, Option, Some, None, is_some, refl, sym, ap, subst, ◌∙◌, arith}
 use Rattle.std.proofs.lemmas.Int.{ints}
-use Rattle.std.specs.declared.cmp.Ordering.{Ordering}
-use Rattle.std.specs.declared.cmp.Ordering.TheVariants.{Less, Equal, Greater}
-use Rattle.std.specs.Ordering.{MatchOrdering, is_lt, int_cmp}
-use Rattle.std.specs.Cmp.{int_ranks}
+use Rattle.std.specs.Ordering.{is_lt, int_cmp}
 use Rattle.std.specs.Int.Signed.{≤ℤ_refl}
 use Rattle.std.specs.FinMap.{FinMap, get, contains_key}
 use Rattle.std.proofs.lemmas.Bool.{both_ways}
@@ -25,6 +22,7 @@ use Rattle.sql_forms.proofs.Keys.{equal_text, columns_are}
 use Rattle.sql_forms.proofs.Lists.{and_true}
 use Rattle.sql_forms.proofs.Orders.{by_column}
 use Rattle.sql_forms.proofs.Selects.{shows}
+use Rattle.mm_definitions.proofs.Integers.{not_less}
 use Rattle.mm_definitions.specs.Bounds.{Profile}
 use Rattle.mm_definitions.specs.Conditions.{piece_count}
 use Rattle.mm_definitions.specs.Keys.{Text, same_text, PieceKey, piece, piece_cmp}
@@ -38,14 +36,6 @@ use Rattle.mm_laws.proofs.KindFacts.{are_same}
 use Rattle.mm_store.specs.Rows.{past_rowid, StagedRow, staged_row}
 use Rattle.mm_store.proofs.Keys.{same_int}
 use Rattle.mm_staging.specs.States.{GivesPieceNumber, IsLast}
-
-not_less : (a b : ℤ) → is_lt (int_cmp a b) ≡ false → b ≤ℤ a
-not_less a b h = go (int_cmp a b) (int_ranks a b) h
-  where
-    go : (o : Ordering) → MatchOrdering o (a <ℤ b) (a ≡ b) (b <ℤ a) → is_lt o ≡ false → b ≤ℤ a
-    go Less m t = absurd (let f : true ≡ false = t in cc)
-    go Equal m t = omega (arith, ints)
-    go Greater m t = omega (arith, ints)
 
 abbrev pub last_terms : List Term
 last_terms = equals 1 0 ∷ []

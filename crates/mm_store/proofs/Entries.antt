@@ -18,21 +18,21 @@ use Rattle.sql_forms.proofs.ListLemmas.{some_has, some_from}
 use Rattle.sql_forms.specs.Tables.{has_key}
 use Rattle.sql_forms.specs.Maps.{Holds}
 use Rattle.sql_forms.proofs.Keys.{equal_text, columns_are}
-use Rattle.sql_forms.proofs.Lists.{none_holds, and_true}
+use Rattle.sql_forms.proofs.Lists.{and_true}
 use Rattle.mm_definitions.specs.Keys.{Text, same_text}
 use Rattle.mm_definitions.specs.Parts.{some_entry}
 use Rattle.mm_definitions.specs.Conditions.{is_used, is_identified}
 use Rattle.mm_definitions.specs.Package.{Package}
 use Rattle.mm_definitions.proofs.Parts.{IsKeyOrder, no_entry}
 use Rattle.mm_definitions.proofs.KeyLaws.{texts}
-use Rattle.mm_definitions.proofs.Listed.{along_entries}
+use Rattle.mm_definitions.proofs.Listed.{along_entries, none_along}
 use Rattle.mm_store.specs.Rows.{past_rowid, past_id, contents_row, relation_row}
 use Rattle.mm_store.proofs.Keys.{columns_after}
 
 module _ {K V : Type 0} {R : K → K → Ordering} (o : IsKeyOrder R) (part : Row → Row) (row_of : K → V → Row) (rows : List Row) (m : FinMap R V) (h : Holds part row_of rows m) where
   no_entries : (uses : K → V → Bool) → ((k : K) (v : V) → get m k ≡ Some v → uses k v ≡ false) → some_entry uses m ≡ false
   unfolding some_entry
-  no_entries uses none = none_holds (λ e. uses e.0 e.1) (entries m) (along_entries o (λ k v. uses k v ≡ false) m none)
+  no_entries uses none = none_along (λ e. uses e.0 e.1) (entries m) (along_entries o (λ k v. uses k v ≡ false) m none)
 
   -- whether a row passes is whether some entry does
   pub some_told : (test : Row → Bool) (uses : K → V → Bool) → ((r : Row) (l : K) (v : V) → part r ≡ row_of l v → test r ≡ uses l v)

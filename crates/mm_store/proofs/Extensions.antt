@@ -6,6 +6,7 @@ use Rattle.std.specs.Ordering.{is_eq, eq_by_cmp, match_ordering, ordering_then}
 use Rattle.std.specs.Option.{option_cmp}
 use Rattle.std.specs.FinMap.{FinMap, get, insert, remove}
 use Rattle.std.proofs.lemmas.Bool.{false_from_ne_true}
+use Rattle.std.specs.Cmp.{Equal-is}
 use Rattle.sqlite.specs.declared.types.Value.{Value}
 use Rattle.sqlite.specs.declared.types.Value.TheVariants.{Null, Int, Text as Words}
 use Rattle.sql_forms.specs.Collation.TheVariants.{Binary}
@@ -23,7 +24,6 @@ use Rattle.sql_forms.specs.Forms.{equals, reads, is_absent}
 use Rattle.sql_forms.specs.Tables.{passes, without}
 use Rattle.sql_forms.proofs.Keys.{equal_text, columns_are}
 use Rattle.sql_forms.proofs.Lists.{filter_after, filter_out, not_not, and_true}
-use Rattle.sql_forms.proofs.Rows.{equal_is}
 use Rattle.mm_definitions.specs.Keys.{Text, text_cmp, Extension, extension_cmp}
 use Rattle.mm_definitions.specs.Package.{zoom_extension, mapping_extension}
 use Rattle.mm_definitions.proofs.Parts.{SameKey, same_key, same_itself, apart, at_put, beside_put, at_remove, beside_remove}
@@ -103,7 +103,7 @@ uncounts rows m h z test decides = record {
         ∙ sym (ap (λ xs. as_count (length xs)) (filter_after (is_extension e) (λ r. not (test r)) rows (λ r there gone.
         false_from_ne_true _ (λ is.
         let hit : is_extension z r ≡ true = sym (decides r (h.sound r there)) ∙ sym (not_not (test r)) ∙ ap not gone in
-        apart.0 (sym (extension_keys.exact (extension_of r) e (equal_is _ is)) ∙ extension_keys.exact (extension_of r) z (equal_is _ hit))))))
+        apart.0 (sym (extension_keys.exact (extension_of r) e ((Equal-is _).0 is)) ∙ extension_keys.exact (extension_of r) z ((Equal-is _).0 hit))))))
 
 -- ---- the WHERE of one extension
 

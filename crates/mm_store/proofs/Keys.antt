@@ -5,6 +5,7 @@ use Rattle.std.specs.declared.cmp.Ordering.TheVariants.{Less, Equal, Greater}
 use Rattle.std.specs.Ordering.{is_eq, eq_by_cmp, ordering_then, int_cmp}
 use Rattle.std.specs.FinMap.{FinMap, get}
 use Rattle.std.proofs.lemmas.Bool.{false_from_ne_true}
+use Rattle.std.specs.Cmp.{Equal-is}
 use Rattle.sqlite.specs.declared.types.Value.TheVariants.{Int, Text as Words}
 use Rattle.sql_forms.specs.Collation.TheVariants.{Binary}
 use Rattle.sql_forms.specs.Order.{value_cmp}
@@ -18,7 +19,6 @@ use Rattle.sql_forms.specs.Tables.{has_key}
 use Rattle.sql_forms.specs.Maps.{Holds}
 use Rattle.sql_forms.proofs.Keys.{equal_text, equal_int, columns_are}
 use Rattle.sql_forms.proofs.Lists.{and_true}
-use Rattle.sql_forms.proofs.Rows.{equal_is}
 use Rattle.mm_definitions.specs.Keys.{Text, text_cmp, Level, level_cmp, level, TileKey, tile_cmp, tile, Item, item_cmp, item, Pairing, pairing_cmp, pairing, PieceKey, piece_cmp, piece}
 use Rattle.mm_definitions.specs.Package.{System}
 use Rattle.mm_definitions.proofs.KeyLaws.{numbers, texts, levels, items, tile_keys, pairing_keys, piece_keys}
@@ -230,5 +230,5 @@ system_fresh rows m h id rest free = false_from_ne_true _ (λ any.
     let r = some_has (λ x. is_eq (value_cmp (rowid x) (Int id))) rows any in
     let it = h.sound r.0 r.1 in
     let tie : is_eq (value_cmp (Int it.0) (Int id)) ≡ true = subst (λ x. is_eq (value_cmp (rowid x) (Int id)) ≡ true) it.3 r.2 in
-    let same : it.0 ≡ id = numbers.exact it.0 id (equal_is _ (sym (ap is_eq (value_cmp-Int it.0 id)) ∙ tie)) in
+    let same : it.0 ≡ id = numbers.exact it.0 id ((Equal-is _).0 (sym (ap is_eq (value_cmp-Int it.0 id)) ∙ tie)) in
     let e = sym free ∙ ap (get m) (sym same) ∙ it.2 in cc)

@@ -1,6 +1,5 @@
 -- What the rows so far are of the connection as it was.
-use Rattle.std.proofs.Common.{◌≡◌, inl, inr, ℕ, Bool, true, false, List, [], ◌∷◌, ◌++◌, Option, None, Some, Result, Ok, Err, refl, sym, subst}
-use Rattle.std.specs.Prelude.{IsSome}
+use Rattle.std.proofs.Common.{◌≡◌, inl, inr, ℕ, Bool, true, List, [], ◌∷◌, ◌++◌, None, Result, Ok, Err, refl, sym, subst}
 use Rattle.sqlite.specs.Order.{Row}
 use Rattle.sqlite.specs.Effect.{Database}
 use Rattle.sqlite.specs.Clock.{timed}
@@ -14,16 +13,13 @@ use Rattle.sql_forms.specs.Compiled.{Compiled}
 use Rattle.sql_forms.specs.CompileError.{CompileError}
 use Rattle.sqlite.specs.Held.{Held, state}
 use Rattle.sqlite.specs.Given.{Returns, HasGiven, HasBegun}
+use Rattle.mm_definitions.proofs.Parts.{never_some}
 use Rattle.mm_definitions.specs.declared.answers.Fault.{Fault}
 use Rattle.mm_store.specs.Statements.{CommitsNothing}
 use Rattle.mm_walk.specs.Walk.{OnlyAsks, Rests, TakesRows}
 
-none_some : {X : Type 0} (o : Option X) → o ≡ None → IsSome o → ⊥
-none_some None is h = absurd (let e : false ≡ true = h in cc)
-none_some (Some x) is h = absurd cc
-
 returns_none : (r : Result Compiled CompileError) → ((c : Compiled) → r ≡ Ok c → c.returning ≡ None) → Returns r → ⊥
-returns_none (Ok c) asks h = none_some c.returning (asks c refl) h
+returns_none (Ok c) asks h = never_some c.returning (asks c refl) h
 returns_none (Err e) asks h = h
 
 pub begun_asking : {S : Type 0} (g : Ghosts S) (sql : List ℕ) (params : Row) (old new : Held S) → OnlyAsks old.schema sql
@@ -34,7 +30,7 @@ begun_asking g sql params old new asks (inr h) = absurd (returns_none _ asks h.0
 pub commits_nothing : (sql : List ℕ) (params : Row) (old new : State) → OnlyAsks old.now.schema sql → Survives old new (CommitsShowing sql params old)
     → CommitsNothing old new
 unfolding CommitsShowing
-commits_nothing sql params old new asks h = survives_weaker old new _ _ (λ clean db may. none_some may.0.returning (asks may.0 may.1.is) may.2) h
+commits_nothing sql params old new asks h = survives_weaker old new _ _ (λ clean db may. never_some may.0.returning (asks may.0 may.1.is) may.2) h
 
 module _ (sql : List ℕ) (params : Row) where
   -- the same statement of a connection that shows the same

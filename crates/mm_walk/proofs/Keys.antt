@@ -6,7 +6,7 @@ use Rattle.std.proofs.lemmas.Cmp.{int_ranked}
 use Rattle.std.specs.Ordering.{is_eq, is_lt, int_cmp}
 use Rattle.std.specs.declared.cmp.Ordering.{Ordering}
 use Rattle.std.specs.declared.cmp.Ordering.TheVariants.{Less, Equal, Greater}
-use Rattle.std.specs.Cmp.{tied_itself, int_cmp_is}
+use Rattle.std.specs.Cmp.{tied_itself, int_cmp_is, Equal-is}
 use Rattle.sqlite.specs.Ops.{binary, is_true}
 use Rattle.sqlite.specs.declared.types.Value.TheVariants.{Int, Text as Words}
 use Rattle.sql_forms.specs.Collation.TheVariants.{Binary}
@@ -15,14 +15,13 @@ use Rattle.sql_forms.specs.BinaryOp.TheVariants.{Compare}
 use Rattle.sql_forms.specs.CompareOp.TheVariants.{Lt}
 use Rattle.sql_forms.specs.Rules.{equal}
 use Rattle.sql_forms.proofs.Keys.{equal_text, equal_int, as_truth}
-use Rattle.sql_forms.proofs.Rows.{equal_is}
 use Rattle.mm_definitions.specs.Keys.{Text, level, Level, Item, item}
 use Rattle.mm_definitions.proofs.Parts.{IsKeyOrder}
 use Rattle.mm_definitions.proofs.KeyLaws.{texts, numbers}
 use Rattle.mm_walk.specs.RowTests.{OnTrue}
 
 pub tie : {K : Type 0} {R : K → K → Ordering} → IsKeyOrder R → (a b : K) → (is_eq (R a b) ≡ true) ↔ (a ≡ b)
-tie {K} {R} o a b = (λ e. o.exact a b (equal_is (R a b) e), λ e. ap is_eq (ap (λ x. R x b) e ∙ tied_itself o.total b))
+tie {K} {R} o a b = (λ e. o.exact a b ((Equal-is (R a b)).0 e), λ e. ap is_eq (ap (λ x. R x b) e ∙ tied_itself o.total b))
 
 -- SQL's equality of two texts, or of two integers
 pub texts_are : (a b : Text) → (equal Binary (Words a) (Words b) ≡ true) ↔ (a ≡ b)

@@ -5,6 +5,7 @@ use Rattle.std.specs.Prelude.{nat_lt, MatchBool}
 use Rattle.std.specs.List.{list_any, filter_map}
 use Rattle.std.proofs.lemmas.Bool.{and_parts, cases_eq, eqb-true}
 use Rattle.std.proofs.lemmas.Cmp.{tied_itself}
+use Rattle.std.specs.Cmp.{Equal-is}
 use Rattle.sqlite_value.specs.declared.value.Value.TheVariants.{Int}
 use Rattle.sqlite_value.specs.Order.{Row}
 use Rattle.sqlite_value.proofs.OrderLemmas.{value_cmp_total}
@@ -29,7 +30,6 @@ use Rattle.sqlite_catalog.proofs.LayoutLemmas.{ascending_filter}
 use Rattle.sql_forms.specs.Tables.{AreRows, AreTables}
 use Rattle.sql_forms.specs.Cascade.{Keep, FollowsAt, Follows, Shrinks}
 use Rattle.sql_forms.proofs.Lists.{has_flat, has_filter_mapped, filter_after, not_false}
-use Rattle.sql_forms.proofs.Rows.{equal_is}
 use Rattle.sql_forms.proofs.Tables.{rows_in, tables_from}
 
 -- ---- rows that are taken by their rowids
@@ -60,7 +60,7 @@ pub own_rowid : (r : Row) (id : ℤ) → rowid r ≡ Int id → has_rowid id r �
 own_rowid r id e = rw (e, tied_itself value_cmp_total (Int id))
 
 pub same_row : (rows : List Row) (id : ℤ) (a b : Row) → IsTable rows → Has rows a → Has rows b → rowid a ≡ Int id → has_rowid id b ≡ true → b ≡ a
-same_row rows id a b up h k keyed is = tied_same rows b a up k h (rw keyed (equal_is _ is))
+same_row rows id a b up h k keyed is = tied_same rows b a up k h (rw keyed ((Equal-is _).0 is))
 
 -- ---- an edit that puts no row
 

@@ -2,7 +2,7 @@
 use Rattle.std.proofs.Common.{◌≡◌, ◌⊎◌, inl, inr, ℕ, zero, suc, ◌<◌, Bool, true, false, not, ◌&&◌, ◌||◌, cond, List}
 use Rattle.std.proofs.Common.{[], ◌∷◌, ◌++◌, map, filter, length, get_or, Option, Some, None, Result, Ok, Err, refl}
 use Rattle.std.proofs.Common.{ap, ap₂, sym, ◌∙◌, arith}
-use Rattle.std.specs.List.{AllByRecursion, list_any, flat_map, filter_map, cons_option}
+use Rattle.std.specs.List.{list_any, flat_map, filter_map, cons_option}
 use Rattle.std.specs.List.Sorted.{IsPermutation}
 use Rattle.std.proofs.lemmas.Bool.{cases_Bool}
 use Rattle.std.proofs.lemmas.List.{length-map}
@@ -123,10 +123,6 @@ filter_out p q (x ∷ xs) so = elim (cases_Bool (p x)) [
   | inl e ↦ let f = so x (inl refl) in let more = filter_out p q xs (λ y h. so y (inr h)) in rw (f, e) more
   | inr e ↦ let f = so x (inl refl) in let more = filter_out p q xs (λ y h. so y (inr h)) in rw (f, e, e) more
 ]
-
-pub none_holds : {X : Type 0} (test : X → Bool) (xs : List X) → AllByRecursion (λ x. test x ≡ false) xs → list_any test xs ≡ false
-none_holds test [] h = refl
-none_holds test (x ∷ xs) h = let more = none_holds test xs h.1 in let first = h.0 in rw (first, more) refl
 
 pub either_any : {X : Type 0} (p q : X → Bool) (xs : List X) → (list_any p xs || list_any q xs) ≡ list_any (λ x. p x || q x) xs
 either_any p q [] = refl

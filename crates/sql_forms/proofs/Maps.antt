@@ -2,7 +2,7 @@
 use Rattle.std.proofs.Common.{◌≡◌, ◌⊎◌, inl, inr, Bool, true, false, not, cond, List, [], ◌∷◌, Option, Some, None, refl, sym, ap, subst, ◌∙◌, Ordering}
 use Rattle.std.specs.Ordering.{is_eq, eq_by_cmp}
 use Rattle.std.specs.List.{list_any}
-use Rattle.std.specs.Cmp.{IsTotalOrder}
+use Rattle.std.specs.Cmp.{IsTotalOrder, Equal-is}
 use Rattle.std.specs.FinMap.{FinMap, get, insert, remove, get-insert, get-remove, IsAntisymmetric}
 use Rattle.std.proofs.lemmas.Bool.{cases_Bool, and_from, not-true, false_from_ne_true, both_ways}
 use Rattle.std.proofs.lemmas.Cmp.{tied_itself}
@@ -15,7 +15,6 @@ use Rattle.sqlite_rules.proofs.ProbeLemmas.{has_mapped, mapped_has}
 use Rattle.sqlite_rules.proofs.TableLemmas.{has_put, put_has, put_all_keeps}
 use Rattle.sql_forms.specs.Tables.{without, with_changed, FindsRow}
 use Rattle.sql_forms.specs.Maps.{Holds}
-use Rattle.sql_forms.proofs.Rows.{equal_is}
 
 module _ {K V : Type 0} {R : K → K → Ordering} (total : IsTotalOrder R) (same : IsAntisymmetric R) (part : Row → Row) (row_of : K → V → Row)
     (key_is : (k l : K) (v w : V) → row_of k v ≡ row_of l w → k ≡ l) where
@@ -24,7 +23,7 @@ module _ {K V : Type 0} {R : K → K → Ordering} (total : IsTotalOrder R) (sam
   Decides test k = (r : Row) (l : K) (v : V) → part r ≡ row_of l v → test r ≡ eq_by_cmp R l k
 
   tied : (l k : K) → eq_by_cmp R l k ≡ true → l ≡ k
-  tied l k h = same l k (equal_is _ h)
+  tied l k h = same l k ((Equal-is _).0 h)
 
   itself : (k : K) → eq_by_cmp R k k ≡ true
   itself k = ap is_eq (tied_itself total k)

@@ -1,12 +1,13 @@
 -- The rows of a table, as lists.
 use Rattle.std.proofs.Common.{◌≡◌, inl, inr, ℤ, Bool, true, false, not, ◌&&◌, ◌||◌, cond, List, [], ◌∷◌, filter, map}
-use Rattle.std.proofs.Common.{refl, sym, ap, subst, subst₂, ◌∙◌, IsTrue, Ordering, Less, Equal, Greater, is_eq}
+use Rattle.std.proofs.Common.{refl, sym, ap, subst, subst₂, ◌∙◌, IsTrue, Less, Equal, is_eq}
 use Rattle.std.specs.List.{list_any}
 use Rattle.std.specs.List.Sorted.{IsPermutation}
 use Rattle.std.specs.Ordering.{ordering_reverse}
 use Rattle.std.proofs.lemmas.Bool.{cases_Bool, false_from_ne_true, both_ways}
 use Rattle.std.proofs.lemmas.List.Sorted.{IsPermutation-sym}
 use Rattle.std.proofs.lemmas.Cmp.{tied_itself}
+use Rattle.std.specs.Cmp.{Equal-is}
 use Rattle.sqlite.specs.declared.types.Value.TheVariants.{Int}
 use Rattle.sqlite.specs.Order.{Row}
 use Rattle.sqlite_value.specs.Order.{value_cmp}
@@ -23,11 +24,6 @@ use Rattle.sqlite_rules.proofs.TableLemmas.{int_is, put_all_has, put_all_adds, p
 use Rattle.sqlite_rules.proofs.PlaceLemmas.{Tied, tied_same}
 use Rattle.sql_forms.specs.Tables.{AreRows, without, with_changed}
 use Rattle.sql_forms.proofs.Lists.{filter_twice, has_permuted, not_true}
-
-pub equal_is : (o : Ordering) → is_eq o ≡ true → o ≡ Equal
-equal_is Less h = absurd cc
-equal_is Equal h = refl
-equal_is Greater h = absurd cc
 
 never_both : (a b : Row) → value_cmp (rowid a) (rowid b) ≡ Less → value_cmp (rowid b) (rowid a) ≡ Less → ⊥
 never_both a b p q = let e = value_cmp_total.antisymm (rowid a) (rowid b) ∙ ap ordering_reverse q in cc
@@ -84,7 +80,7 @@ picks test rows are r h = elim (cases_Bool (test r)) [
       let found = some_has (λ id. has_rowid id r) _ any in
       let from = has_mapped (λ (x : Row). id_in (rowid x)) (filter test rows) found.0 found.1 in
       let was = has_filtered test rows from.0 from.1 in
-      let tie : Tied r from.0 = subst (λ v. value_cmp (rowid r) v ≡ Equal) (ap Int from.2 ∙ sym (int_is (rowid from.0) (all_has _ rows from.0 are.keyed was.0))) (equal_is _ found.2) in
+      let tie : Tied r from.0 = subst (λ v. value_cmp (rowid r) v ≡ Equal) (ap Int from.2 ∙ sym (int_is (rowid from.0) (all_has _ rows from.0 are.keyed was.0))) ((Equal-is _).0 found.2) in
       let same = tied_same rows r from.0 are.rise h was.0 tie in
       both_ways _ fails (ap test same ∙ was.1)) ∙ sym fails
 ]

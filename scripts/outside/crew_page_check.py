@@ -337,6 +337,42 @@ def check_where_the_device_is(scene):
     expect_quiet(crew)
 
 
+LATE_DEVICE = """navigator.geolocation.getCurrentPosition = good => {
+  window.tells = () => good({ coords: { longitude: 9.005, latitude: 50.552, accuracy: 4.2 } });
+}; 0"""
+
+
+def check_a_device_that_tells_late(scene):
+    """Its place goes into the form that asked for it, which is saved behind that, and in place of no other that was set meanwhile."""
+    seat, crew = scene.begin()
+    crew.value(LATE_DEVICE)
+    crew.press("fresh")
+    crew.write("title", "Waits for it")
+    crew.press("here")
+    crew.press("save")
+    expect(crew.text("told"), "Waiting for the device's place ..", "what is said")
+    crew.value("tells(); 0")
+    crew.page.wait("byId('edit').hidden")
+    crew.press("fresh")
+    crew.press("here")
+    crew.press("leave")
+    crew.open("Stone 4")
+    crew.value("tells(); 0")
+    expect(crew.value("[byId('east').value, byId('told').innerText, isHeld()]"), ["500280", "", False], "the form of another row")
+    crew.press("leave")
+    crew.press("fresh")
+    crew.write("title", "By a tap")
+    crew.press("here")
+    crew.fill(place=(500_400, 5_600_500))
+    crew.value("tells(); 0")
+    crew.save()
+    crew.wait_until_it_stands()
+    expect_quiet(crew)
+    rows = rows_of(seat)
+    expect(by_title(rows, "Waits for it")[1][0], "@25832:500354.22/5600007.53", "the device's place")
+    expect(by_title(rows, "By a tap")[1][0], "@25832:500400.0/5600500.0", "the place that was tapped")
+
+
 def check_the_way_to_a_row(scene):
     """A form tells how far its place is from the map's middle and which way, and the list does in its order; the device leads there as it goes."""
     seat, crew = scene.begin()
@@ -357,8 +393,10 @@ def check_the_way_to_a_row(scene):
     expect(crew.text("way"), "From the map's middle: 60 m, 180° (S)", "the way to another place")
     # By gdaltransform the first is at 500354.2 E, 5600007.5 N.
     page.ask("Emulation.setGeolocationOverride", longitude=9.005, latitude=50.552, accuracy=4.2)
+    crew.value("window.awake = 0; navigator.wakeLock.request = async () => { window.awake += 1; return { release() { window.awake -= 1; } }; }; 0")
     crew.press("lead")
     page.wait("byId('way').innerText === '378 m, 21° (N), within 5 m'")
+    expect(crew.value("document.dispatchEvent(new Event('visibilitychange')), window.awake"), 2, "how often the screen was asked to stay on")
     expect(crew.value("[[5600007, 500354], [5600360, 500490]].every(it => map.getBounds().contains(it))"), True, "both are on the map")
     scene.screenshot(crew, "way")
     page.ask("Emulation.setGeolocationOverride", longitude=9.006, latitude=50.552, accuracy=9)
@@ -508,6 +546,80 @@ def cut_at_second(cutter, cut):
         return real(connection, head, body)
 
     cutter.hand_on = counted
+
+
+def check_a_photo_whose_row_is_open_again(scene):
+    """A photo that waits is shown as that, and once it stands as one that stands, and as nothing else."""
+    seat = scene.seat()
+    cutter = Cutter(seat)
+    crew = scene.crew(cutter.address)
+    cutter.late = late = Late(b"Looked at")
+    crew.new(title="Looked at", photos=[scene.photo])
+    late.wait()
+    crew.open("Looked at")
+    shown = "[...byId('thumbnails').children].map(it => it.innerText.split(/[ \\n]/)[0]).join()"
+    expect(crew.value(shown), "waits", "the photo on its way")
+    late.go()
+    crew.wait_until_it_stands()
+    crew.page.wait(f"{shown} === 'photos'")
+    expect_quiet(crew)
+
+
+def check_the_table_of_a_new_row(scene):
+    """A new row is one of the table that was chosen, also before its rows are there; whether it may have photos goes by the table of the form."""
+    seat = scene.seat()
+    cutter = Cutter(seat)
+    crew = scene.crew(cutter.address)
+    cutter.late = late = Late(b"/rows/owners/")
+    crew.value("byId('book').value = 'owners'; byId('book').dispatchEvent(new Event('change')); 0")
+    late.wait()
+    crew.press("fresh")
+    expect(crew.value("[byId('into').value, byId('pictures').disabled]"), ["owners", True], "the form for a table without photos")
+    crew.value("byId('into').value = 'spots'; byId('into').dispatchEvent(new Event('change', { bubbles: true })); 0")
+    crew.page.wait("byId('thumbnails').ariaBusy === 'false'")
+    expect(crew.value("[byId('pictures').disabled, byId('thumbnails').innerText]"), [False, ""], "the form for one with photos")
+    crew.fill(title="Of the spots", photos=[scene.photo])
+    late.go()
+    crew.save()
+    crew.wait_until_it_stands()
+    expect_quiet(crew)
+    number, _ = by_title(rows_of(seat), "Of the spots")
+    expect([it[0] for it in related_of(seat, number)], ["image/jpeg"], "its photos")
+
+
+def check_a_package_without_a_map(scene):
+    """Rows are read anew where the program is back, also where there is no map."""
+    file = scene.folder / "no map.mmpkg"
+    new_package(file, record(["table", "spots", "attributes", "Spots"]) + record(["row", "spots", 1, "Stone", "", 0]))
+    take_in(file, scene.folder / "no map")
+    seat = Seat(file)
+    scene.seats.append(seat)
+    crew = scene.crew(seat.address)
+    seat.kill()
+    crew.new(title="Meanwhile")
+    crew.page.wait("byId('state').innerText === \"the package doesn't answer\"")
+    expect(mmpkg("run", file, "--at", 0, given=b"row,spots,2,By another,,0\n"), "1 ok\n", "a row that another program put")
+    seat.start()
+    crew.wait_until_it_stands()
+    crew.page.wait("byId('count').innerText === '3 rows'")
+    expect_quiet(crew, "ERR_")
+
+
+def check_line_ends_of_a_row(scene):
+    """A title and a note with line ends, which a field doesn't have, stay letter by letter where others than these are changed."""
+    seat, crew = scene.begin()
+    expect(send(crew, 'row,spots,30,"Two\nlines","by the road\r\nand the oak ",3\n'), "1 ok\n", "the office's row")
+    crew.reload()
+    crew.value("open(stood.get(30)); 0")
+    crew.fill(amount=4, photos=[scene.photo])
+    crew.save()
+    crew.wait_until_it_stands()
+    crew.value("open(stood.get(30)); 0")
+    crew.fill(place=(500_400, 5_600_500))
+    crew.save()
+    crew.wait_until_it_stands()
+    expect_quiet(crew)
+    expect(rows_of(seat)[30], ("Two\nlines", "@25832:500400.0/5600500.0 by the road\r\nand the oak ", 4), "the row")
 
 
 def check_rows_that_come_late(scene):
@@ -949,7 +1061,13 @@ def check_the_end_of_the_day(scene):
     expect(seat.program.wait(10), 0, "the desk's status")
     journal = pathlib.Path(f"{seat.file}-wal")
     assert not journal.exists() or journal.stat().st_size < 100, "the journal holds commits"
+    crew.new(title="Behind the end")
+    expect(crew.text("state"), "the day is ended, without this: 1 to send", "what is said of a row behind the end")
+    seat.again()
+    crew.wait_until_it_stands()
+    expect(crew.text("messages"), "", "what is said where the package is open again")
     rows = rows_of(seat)
+    by_title(rows, "Behind the end")
     by_title(rows, "The last")
     by_title(rows, "Stone four")
 

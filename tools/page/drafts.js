@@ -88,7 +88,7 @@ async function openDraft(owner) {
 function fillForm({ table, row, fresh, place, values }, act, photos) {
   openForm({ table, row, fresh, act });
   for (const [at, it] of FIELDS.entries()) byId(it).value = values[at];
-  Object.assign(form, { place, photos });
+  Object.assign(form, { table: byId("into").value, place, photos });
   if (placeOfForm() !== null) tap(false);
   showPlace();
   showPhotos();

@@ -2,8 +2,9 @@
 
 const MOST_TEXT = 1000, MOST_AMOUNT = 10n ** 15n;
 
-let form = null;          // what the form is about: { table, row, fresh, act, place, photos, before, from }, and of
-                          // photos on their way how many, the promise that they are there, and what failed of them: coming, taken, failed
+let form = null;          // what the form is about: { table, row, fresh, act, place, photos, before, from }; what its fields showed of the row
+                          // at first: first; of photos on their way how many, the promise that they are there, and what failed of them:
+                          // coming, taken, failed; and the promise of a place from the device: asked
 
 /** Whether what is typed or taken in the form would be lost; then that is said. */
 function isHeld() {
@@ -29,7 +30,7 @@ async function change(act) {
 
 function openForm({ table, row, fresh, act = null, photos = [] }) {
   const place = placeIn(row.note), from = form?.from ?? byId("panel").scrollTop;
-  form = { table, row, fresh, act, photos, place, from, coming: 0, taken: Promise.resolve(), before: null };
+  form = { table, row, fresh, act, photos, place, from, coming: 0, taken: Promise.resolve(), before: null, first: null, asked: null };
   hold(false);
   byId("which").textContent = act ? `Refused: ${act.refused}` : fresh ? "A new row" : `Row ${row.id}`;
   byId("other").hidden = !fresh || tables().length < 2;
@@ -37,6 +38,7 @@ function openForm({ table, row, fresh, act = null, photos = [] }) {
   [byId("title").value, byId("note").value, byId("amount").value] = [row.title, place ? place.rest : row.note, row.amount];
   [byId("east").value, byId("north").value, byId("told").textContent] = [place?.east ?? "", place?.north ?? "", ""];
   form.before = typed();
+  form.first = wordsTyped();
   byId("remove").hidden = fresh;
   byId("edit").hidden = false;
   tap(fresh && !place && !act && Boolean(map));
@@ -50,6 +52,9 @@ function openForm({ table, row, fresh, act = null, photos = [] }) {
 }
 
 const typed = () => JSON.stringify([...FIELDS.map(it => byId(it).value), ...form.photos.map(it => it.id)]);
+
+/** The title and the note as the form's fields have them: a field has no line ends, or has them changed. */
+const wordsTyped = () => ({ title: byId("title").value, note: byId("note").value.trim() });
 
 /** Closes the form; the panel shows what it showed before. */
 function closeForm() {
@@ -102,16 +107,25 @@ function tapped({ originalEvent, latlng }) {
   tap(false);
 }
 
-async function placeByDevice() {
+/** Asks the device for the form's place. */
+function placeByDevice() {
+  if (form.asked) return;
   byId("told").textContent = "asking the device ..";
-  try {
-    const place = await deviceAt();
-    setPlace(place.east, place.north, 2);
-    showDevice(place);
-    byId("told").textContent = `The device tells this place within ${Math.ceil(place.accuracy)} m.`;
-  } catch (error) {
-    byId("told").textContent = whyNoDevice(error);
-  }
+  form.asked = takePlace(form, placeTyped());
+}
+
+const placeTyped = () => `${byId("east").value} ${byId("north").value}`;
+
+/** Takes the device's place into the form that asked for it, where that is open still and has no other meanwhile; answers whether it told one. */
+async function takePlace(now, before) {
+  const place = await deviceAt().catch(error => ({ why: whyNoDevice(error) }));
+  now.asked = null;
+  if (form !== now) return false;
+  const isOurs = !place.why && placeTyped() === before;
+  if (isOurs) setPlace(place.east, place.north, 2);
+  if (isOurs) showDevice(place);
+  byId("told").textContent = place.why ?? (isOurs ? `The device tells this place within ${Math.ceil(place.accuracy)} m.` : "");
+  return !place.why;
 }
 
 const nameOf = ({ title, id }) => title || String(id);
@@ -131,10 +145,10 @@ function whyNoRow(title, note, place, amount) {
 
 /** The row that the form's fields tell; what wasn't changed stays letter by letter. */
 function rowOfForm(place) {
-  const [title, rest, amount] = [byId("title").value, byId("note").value.trim(), byId("amount").value.trim() || "0"];
-  const was = placeIn(form.row.note), wordOf = it => it && noteOf(it, "");
-  const isSame = (was ? was.rest : form.row.note.trim()) === rest && wordOf(place) === wordOf(was);
-  const note = isSame ? form.row.note : noteOf(place, rest);
+  const now = wordsTyped(), amount = byId("amount").value.trim() || "0", was = placeIn(form.row.note), wordOf = it => it && noteOf(it, "");
+  const title = now.title === form.first.title ? form.row.title : now.title;
+  const isSame = now.note === form.first.note, rest = isSame ? was?.rest ?? form.row.note : now.note;
+  const note = isSame && wordOf(place) === wordOf(was) ? form.row.note : noteOf(place, rest);
   return { row: { id: form.row.id, title, note, amount: Number(amount) }, why: whyNoRow(title, note, place, amount) };
 }
 
@@ -155,7 +169,7 @@ function actsOf(table, row, photos) {
 
 /** Saves the form: its acts are in the outbox, on this browser's disk, before it closes. */
 async function save() {
-  if (!await photosAreTaken()) return;
+  if (!await photosAreTaken() || !await placeIsTold()) return;
   const place = placeOfForm(), { row, why } = rowOfForm(place);
   byId("told").textContent = why;
   if (why) return;
@@ -175,6 +189,17 @@ async function photosAreTaken() {
   hold(false);
   byId("told").textContent = now.failed;
   return !now.failed;
+}
+
+/** Waits for the place that the device is asked for, and answers whether it told one. */
+async function placeIsTold() {
+  const now = form;
+  if (!now.asked) return true;
+  byId("told").textContent = "Waiting for the device's place ..";
+  hold(true);
+  const told = await now.asked;
+  if (form === now) hold(false);
+  return told;
 }
 
 /** Keeps fingers and keys off the form, as long as it is being saved: what is typed then would be lost. */
@@ -206,12 +231,14 @@ function removeRow() {
 }
 
 function listenToForm() {
-  const fresh = () => ({ table: showing, row: { id: freshId(), title: "", note: "", amount: 0 }, fresh: true });
+  const fresh = () => ({ table: byId("book").value, row: { id: freshId(), title: "", note: "", amount: 0 }, fresh: true });
   byId("fresh").addEventListener("click", () => isHeld() || openForm(fresh()));
   byId("tap").addEventListener("click", () => tap(!isTapping()));
   byId("middle").addEventListener("click", () => map && setPlace(map.getCenter().lng, map.getCenter().lat, digitsHere()));
   byId("here").addEventListener("click", placeByDevice);
   byId("lead").addEventListener("click", () => lead(!led));
+  document.addEventListener("visibilitychange", stayAwake);
+  byId("into").addEventListener("change", () => { form.table = byId("into").value; showPhotos(); });
   for (const it of ["east", "north"]) byId(it).addEventListener("input", showDraft);
   for (const it of ["camera", "pictures"]) byId(it).addEventListener("change", choose);
   twice(byId("leave"), closeForm, isHeld);

@@ -69,7 +69,7 @@ async function askAgain() {
   if (response && !response.ok) say("gone", NO_KEY);
   if (!response?.ok) return;
   say("gone", null);
-  for (const it of onReturn) it();
+  for (const it of onReturn) it?.();
 }
 
 /** A pyramid with its lengths in metres, null where none of the known matrices makes its extent. */

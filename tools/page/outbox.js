@@ -261,10 +261,10 @@ function tellState(text, kind) {
 
 /** Tells how much waits, was refused, and was typed and left. */
 function showState() {
-  if (ended) return;
   const refused = waiting.filter(it => it.refused).length, open = waiting.length - refused;
   const words = [open && `${open} to send`, refused && `${refused} refused`, left.length && `${left.length} not saved`].filter(it => it).join(", ");
-  tellState(words || "all is in the package", words ? "waits" : "");
+  if (ended) tellEnd(words);
+  else tellState(words || "all is in the package", words ? "waits" : "");
 }
 
 /** An item that says what isn't in the package yet, and why. */

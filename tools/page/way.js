@@ -41,9 +41,15 @@ function lead(on) {
   byId("lead").setAttribute("aria-pressed", String(on));
   if (on) {
     const how = { enableHighAccuracy: true, timeout: DEVICE_PATIENCE, maximumAge: 0 };
-    led = { watch: navigator.geolocation.watchPosition(follow, cannotLead, how), awake: navigator.wakeLock?.request("screen").catch(() => null), at: null };
+    led = { watch: navigator.geolocation.watchPosition(follow, cannotLead, how), awake: null, at: null };
+    stayAwake();
   }
   showDraft();
+}
+
+/** Keeps the screen on while the device leads. A browser takes that back from a page that is hidden, so it is asked anew. */
+function stayAwake() {
+  if (led && !document.hidden) led.awake = navigator.wakeLock?.request("screen").catch(() => null);
 }
 
 /** Shows where the device is now, and the way from there; the map follows where it has left that. */

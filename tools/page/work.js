@@ -43,9 +43,10 @@ function rowsNow() {
 
 /** Takes over what an act that was done has changed. */
 function stands(act) {
+  waiting = waiting.filter(it => it.saved !== act.saved);
   meanwhile.push(act);
-  if (form && act.of === form.row.id) showPhotos();
   if (act.table === showing) takeOver(stood, act);
+  if (form && act.of === form.row.id) showPhotos();
 }
 
 function takeOver(rows, { row, dropped }) {
@@ -135,9 +136,23 @@ async function endDay() {
   });
   say("ended", null);
   if (!ended) return tellState("the package doesn't answer: the day isn't ended", "gone");
-  tellState("the day is ended: the package is closed, and its file may be copied", "gone");
-  say("ended", waiting.length + left.length ? "The package is closed, and what 'Not in the package yet' lists isn't in it: open it again for that."
+  showState();
+  away ??= setTimeout(askAgain, AGAIN);  // whether it is opened again
+}
+
+/** Tells that the day is ended, and what isn't in the package. */
+function tellEnd(left) {
+  tellState(left ? `the day is ended, without this: ${left}` : "the day is ended: the package is closed, and its file may be copied", "gone");
+  say("ended", left ? "The package is closed, and what 'Not in the package yet' lists isn't in it: open it again for that."
     : "The package is closed. This page may be closed too.");
+}
+
+/** Goes on where the package answers again. */
+function goOn() {
+  if (ended) say("ended", null);
+  ended = false;
+  readRows();
+  send();
 }
 
 function listenToList() {
@@ -177,7 +192,7 @@ async function startWork(known) {
   });
   if (await hasOther()) say("other", "This browser keeps work for another package too, which isn't in that yet: open it at this port to send it.");
   navigator.storage?.persist?.();  // which may ask the user, and isn't waited for
-  onReturn[1] = () => { readRows(); send(); };
+  onReturn[1] = goOn;
   await readRows();
   showWaiting();
   await startDrafts();

@@ -297,16 +297,20 @@ class Desk:
         refuse(self.file, self.file, status if status > 0 else 3, said or "it can not be opened")
 
     def end(self):
-        """Ends the program well, as far as it lets."""
-        if self.running is None or self.running.poll() is not None:
-            return True
-        tell("Ending the day ..")
-        self.ask("POST", "/end")
-        try:
-            return self.running.wait(PATIENCE) == 0
-        except subprocess.TimeoutExpired:
+        """Ends the program well, as far as it lets, and answers whether FILE alone holds all then.
+
+        While it still checks the package it has no port, so it is asked again.
+        """
+        if self.running is not None and self.running.poll() is None:
+            tell("Ending the day ..")
+            until = time.monotonic() + PATIENCE
+            while self.running.poll() is None and (left := until - time.monotonic()) > 0:
+                self.ask("POST", "/end", seconds=left)
+                with contextlib.suppress(subprocess.TimeoutExpired):
+                    self.running.wait(min(left, 1))
             self.running.kill()
-            return False
+            self.running.wait()
+        return not has_commits(self.file)
 
 
 def how_long(file):

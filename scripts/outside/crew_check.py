@@ -27,6 +27,7 @@ TOOL = TOP / "tools" / "crew.py"
 LEAFLET = pathlib.Path("/usr/share/javascript/leaflet/leaflet.min.js")
 AT_ONCE = 60
 ENDED = "The day is ended: {} alone holds all, and may be copied."
+BOTH = "{0}: the program didn't end well: keep {0} and {0}-wal together"
 
 
 class Started:
@@ -95,6 +96,14 @@ def kill_desks(file):
     for it in desks(file):
         with contextlib.suppress(ProcessLookupError):
             os.kill(it, signal.SIGKILL)
+
+
+def program_that(file, does):
+    """A program beside a package that does something of a shell first, and then is the program."""
+    made = file.parent / "program"
+    made.write_text(f'#!/bin/sh\n{does}\nexec "{PROGRAM}" "$@"\n')
+    made.chmod(0o755)
+    return str(made)
 
 
 def status_of(address, *words):
@@ -166,6 +175,38 @@ def check_kills():
         expect(run("curl", "-s", f"{address}/rows/spots/30")[0].count('"id"'), 3, "the rows")
         second.running.send_signal(signal.SIGHUP)
         second.wait()
+
+
+def check_an_end_behind_a_kill():
+    """Ctrl-C behind a kill, before the program is started again: what the journal holds is told, and the next day has it."""
+    with folder_with() as file:
+        first = Started(file)
+        address = first.address()
+        expect(post(address, "row,spots,40,Spring,,1\n"), "1 ok\n", "a row")
+        first.running.send_signal(signal.SIGSTOP)
+        kill_desks(file)
+        wait_until(lambda: not desks(file), "the kill", AT_ONCE)
+        first.running.send_signal(signal.SIGINT)
+        first.running.send_signal(signal.SIGCONT)
+        expect(first.wait(3)[-1], BOTH.format(file), "the last line")
+        second = Started(file, port=first.port)
+        expect(run("curl", "-s", f"{second.address()}/rows/spots/40")[0].count('"id"'), 1, "the rows")
+        second.running.send_signal(signal.SIGINT)
+        expect(second.wait()[-1], ENDED.format(file), "the last line of the next day")
+
+
+def check_an_end_before_the_page():
+    """Ctrl-C while the program still checks the package, and has no port yet: it is asked again, and ends well."""
+    with folder_with() as file:
+        begun = file.parent / "begun"
+        slow = program_that(file, f'[ "$1" = desk ] && touch "{begun}" && sleep 2')
+        started = Started(file, MMPKG=slow)
+        wait_until(begun.exists, "the desk's start", AT_ONCE)
+        began = time.monotonic()
+        started.running.send_signal(signal.SIGINT)
+        expect(started.wait()[-1], ENDED.format(file), "the last line")
+        assert time.monotonic() - began < 30, f"the end took {time.monotonic() - began:.0f} s"
+        expect(desks(file), [], "desks that are left")
 
 
 def check_the_key():
@@ -243,11 +284,8 @@ def check_one_opening():
         mmpkg("kit", file, "large", kit)
         mmpkg("run", file, given=b"publish,large\n")
         ran = folder / "ran"
-        told = folder / "program"
-        told.write_text(f'#!/bin/sh\necho "$1" >>"{ran}"\nexec "{PROGRAM}" "$@"\n')
-        told.chmod(0o755)
         kept = folder / "cache" / "mmpkg" / "seconds_a_gb"
-        how = {"MMPKG": str(told), "XDG_CACHE_HOME": str(folder / "cache")}
+        how = {"MMPKG": program_that(file, f'echo "$1" >>"{ran}"'), "XDG_CACHE_HOME": str(folder / "cache")}
         for day, (words, runs) in enumerate(((".", ["check", "check", "run", "kit", "run", "desk"]), (" (24 MB: about 24 s).", ["desk"]))):
             started = Started(file, **how)
             expect(started.until("is opened"), f"{file} is opened: first it is checked as a whole{words}", f"the words of day {day}")

@@ -74,8 +74,13 @@ FAULTS = {
 }
 
 
-def tell(*words):
-    print(*words, flush=True)
+def tell(*words, to=sys.stdout):
+    """Says something in the window; where that is gone nobody reads it, and the day goes on."""
+    try:
+        print(*words, file=to, flush=True)
+    except OSError:
+        # What Python still holds of it would be tried again with all that follows.
+        os.dup2(os.open(os.devnull, os.O_WRONLY), to.fileno())
 
 
 def the_only_package():
@@ -321,6 +326,9 @@ def how_long(file):
 
 
 def stop(*_):
+    """The end takes its time, and who asks for it twice gets it once: a window that is closed does."""
+    for it in STOPS:
+        signal.signal(it, signal.SIG_IGN)
     raise KeyboardInterrupt
 
 
@@ -339,9 +347,6 @@ def work(given):
     try:
         desk.day()
     except KeyboardInterrupt:
-        # The end takes its time, and who asks for it twice gets it once.
-        for it in STOPS:
-            signal.signal(it, signal.SIG_IGN)
         if not desk.end():
             raise Refused(f"{file}: the program didn't end well: keep {file} and {file}-wal together", 3) from None
     tell(f"The day is ended: {file} alone holds all, and may be copied.")
@@ -363,11 +368,11 @@ def main():
     try:
         return work(given)
     except Refused as refused:
-        print(refused, file=sys.stderr)
+        tell(refused, to=sys.stderr)
         return refused.status
     finally:
         if given.wait and sys.stdin.isatty():
-            with contextlib.suppress(EOFError, KeyboardInterrupt):
+            with contextlib.suppress(EOFError, OSError, KeyboardInterrupt):
                 input("Press Enter to close this window.")
 
 

@@ -10,6 +10,7 @@ isn't there.
 import contextlib
 import os
 import pathlib
+import pty
 import re
 import select
 import signal
@@ -20,8 +21,9 @@ import sys
 import tempfile
 import time
 
-from checks import PROGRAM, TOP, end, expect, mmpkg, run, run_checks
+from checks import PROGRAM, TOP, content_of, end, expect, mmpkg, run, run_checks
 from crew_page import free_port, wait_until
+from terminal import read_until
 
 TOOL = TOP / "tools" / "crew.py"
 LEAFLET = pathlib.Path("/usr/share/javascript/leaflet/leaflet.min.js")
@@ -61,6 +63,24 @@ class Started:
         self.running.wait(AT_ONCE)
         expect(self.running.returncode, status, f"the status, behind {self.said}")
         return self.said
+
+
+def in_a_window(file, *words):
+    """The crew's command in a terminal of its own, and the other end of that."""
+    window, its_end = pty.openpty()
+    command = ["setsid", "--ctty", sys.executable, "-B", TOOL, file, *words]
+    running = subprocess.Popen(command, stdin=its_end, stdout=its_end, stderr=its_end, env=bare())
+    os.close(its_end)
+    return running, window
+
+
+def shown_until(window, words):
+    """What a window shows until it has shown some words."""
+    shown = b""
+    for _ in range(AT_ONCE // 10):
+        shown += b"" if words.encode() in shown else read_until(window, words.encode())
+    assert words.encode() in shown, f"{words!r} isn't shown, but {shown}"
+    return shown.decode()
 
 
 def bare():
@@ -207,6 +227,20 @@ def check_an_end_before_the_page():
         expect(started.wait()[-1], ENDED.format(file), "the last line")
         assert time.monotonic() - began < 30, f"the end took {time.monotonic() - began:.0f} s"
         expect(desks(file), [], "desks that are left")
+
+
+def check_a_window_that_is_closed():
+    """Closing the window ends the day, though nothing can be told there any more."""
+    with folder_with() as file:
+        port = free_port()
+        running, window = in_a_window(file, "--port", str(port))
+        shown_until(window, "Ctrl-C here")
+        key = pathlib.Path(f"{file}.key").read_text().strip()
+        expect(post(f"http://127.0.0.1:{port}/{key}", "row,spots,41,Spring,,1\n"), "1 ok\n", "a row")
+        os.close(window)
+        running.wait(AT_ONCE)
+        expect((desks(file), running.returncode), ([], 0), "desks that are left, and the status")
+        expect(content_of(pathlib.Path(f"{file}-wal")) or b"", b"", "the journal")
 
 
 def check_the_key():

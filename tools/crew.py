@@ -38,6 +38,7 @@ import webbrowser
 
 import make_viewer
 from border import (
+    LINE,
     Refused,
     arguments,
     has_commits,
@@ -95,13 +96,17 @@ def the_only_package():
 def key_of(file):
     """The key of a package's address, of a file beside it that only its owner may read; made where there is none."""
     path = pathlib.Path(f"{file}.key")
-    with os.fdopen(os.open(path, os.O_RDWR | os.O_CREAT | os.O_NOFOLLOW, 0o600), "r+", encoding="ascii") as kept:
+    opened = os.open(path, os.O_RDWR | os.O_CREAT | os.O_NOFOLLOW, 0o600)
+    with os.fdopen(opened, "r+", encoding="ascii", errors="replace") as kept:
         found = os.fstat(kept.fileno())
         if not stat.S_ISREG(found.st_mode) or found.st_uid != os.getuid():
             raise Refused(f"{path}: is no file of your own; remove it")
         text = kept.read(100).strip()
         if KEY.fullmatch(text) and not found.st_mode & 0o077:
             return text
+        if text:
+            why = "others could read it" if KEY.fullmatch(text) else "that is no key"
+            tell(f"{path}: {why}, so a new one is made, and the address is new.")
         os.fchmod(kept.fileno(), 0o600)
         key = secrets.token_urlsafe(24)
         if os.fstat(kept.fileno()).st_mode & 0o077:
@@ -353,6 +358,22 @@ def work(given):
     return 0
 
 
+def worked(given):
+    """Works, and answers the exit status; the reason is told before a window can be closed."""
+    try:
+        return work(given)
+    except Refused as refused:
+        why, status = refused, refused.status
+    except OSError as error:
+        why, status = error, 2
+    except KeyboardInterrupt:
+        why, status = "stopped", 130
+    with contextlib.suppress(OSError):
+        LINE.clear()
+    tell(why, to=sys.stderr)
+    return status
+
+
 def main():
     parser = arguments(__doc__)
     parser.add_argument("FILE", type=pathlib.Path, nargs="?")
@@ -366,10 +387,7 @@ def main():
     for it in STOPS:
         signal.signal(it, stop)
     try:
-        return work(given)
-    except Refused as refused:
-        tell(refused, to=sys.stderr)
-        return refused.status
+        return worked(given)
     finally:
         if given.wait and sys.stdin.isatty():
             with contextlib.suppress(EOFError, OSError, KeyboardInterrupt):

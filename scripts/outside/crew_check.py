@@ -244,17 +244,20 @@ def check_a_window_that_is_closed():
 
 
 def check_the_key():
-    """A key that others could have read is made anew; a link in its place is refused."""
+    """A key that others could have read, or that is none, is made anew; a link in its place is refused."""
     with folder_with() as file:
         key = pathlib.Path(f"{file}.key")
-        key.write_text("a-key-that-all-can-read\n")
-        key.chmod(0o644)
-        started = Started(file)
-        address = started.address()
-        found = stat.S_IMODE(key.stat().st_mode), "a-key-that-all" in address, key.read_text().strip() in address
-        expect(found, (0o600, False, True), "the key")
-        started.running.send_signal(signal.SIGINT)
-        started.wait()
+        for text, mode, why in ((b"a-key-that-all-can-read\n", 0o644, "others could read it"),
+                                ("a-key-with-\u00e4-letter\n".encode(), 0o600, "that is no key")):  # fmt: skip
+            key.write_bytes(text)
+            key.chmod(mode)
+            started = Started(file)
+            expect(started.until("so a new one"), f"{key}: {why}, so a new one is made, and the address is new.", "what is said")
+            address = started.address()
+            found = stat.S_IMODE(key.stat().st_mode), "/a-key" in address, address.endswith(f"/{key.read_text().strip()}")
+            expect(found, (0o600, False, True), "the key")
+            started.running.send_signal(signal.SIGINT)
+            started.wait()
         key.unlink()
         key.symlink_to("/dev/null")
         said = Started(file).wait(2)
@@ -303,6 +306,18 @@ def check_what_can_not_be_opened():
         served.kill()
         served.communicate()
         assert f"{file}: fault 91: another program has the file" in said[-1], said
+
+
+def check_a_window_that_waits():
+    """With --wait the reason is told before the window waits, also where the machine gives it."""
+    with folder_with() as file:
+        pathlib.Path(f"{file}.key").mkdir()
+        running, window = in_a_window(file, "--wait")
+        shown = shown_until(window, "Press Enter")
+        assert "trip.mmpkg.key" in shown.partition("Press Enter")[0], shown
+        os.write(window, b"\n")
+        expect(running.wait(AT_ONCE), 2, "the status")
+        os.close(window)
 
 
 def check_one_opening():

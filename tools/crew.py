@@ -59,6 +59,8 @@ KEY = re.compile("[A-Za-z0-9_-]{16,64}")
 # How often in a row the program may end within so many seconds of its start; how long it may take to end.
 ENDS, SOON, PATIENCE = 5, 3, 120
 STOPS = (signal.SIGINT, signal.SIGTERM, signal.SIGHUP)
+# The state of a socket that listens, in /proc/net/tcp.
+LISTENS = "0A"
 # How long the address without the key leads on to the one with it.
 LEADS = 120
 
@@ -175,11 +177,26 @@ def bring_page(file, table):
         run_program(file, ["run", file], f"publish,{edition}\n".encode())
 
 
+def connections_here():
+    """The TCP sockets of this machine, as Linux tells them: each a list of words."""
+    return [line.split() for line in pathlib.Path("/proc/net/tcp").read_text(encoding="ascii").splitlines()[1:]]
+
+
 def is_own(here, peer):
     """Whether a connection from a port of this machine is of a program of this user, as Linux tells it."""
     wanted = [f"0100007F:{peer:04X}", f"0100007F:{here:04X}"]
-    lines = [line.split() for line in pathlib.Path("/proc/net/tcp").read_text(encoding="ascii").splitlines()[1:]]
-    return any(line[1:3] == wanted and line[7] == str(os.getuid()) for line in lines)
+    return any(it[1:3] == wanted and it[7] == str(os.getuid()) for it in connections_here())
+
+
+def may_have_key(port):
+    """Whether the program that listens at a port of this machine is of this user, or nothing tells whose it is."""
+    try:
+        return any(
+            it[1] == f"0100007F:{port:04X}" and it[3] == LISTENS and it[7] == str(os.getuid())
+            for it in connections_here()
+        )
+    except OSError:
+        return True
 
 
 def lead_to(address):
@@ -228,9 +245,12 @@ class Desk:
         self.size, self.began = 0, 0.0
 
     def ask(self, method, path, seconds=PATIENCE):
-        """The status that the desk answers with; None where there is none."""
+        """The status that the desk answers with; None where there is none, or another user has the port."""
         connection = http.client.HTTPConnection("127.0.0.1", self.given.port, timeout=seconds)
         try:
+            connection.connect()
+            if not may_have_key(self.given.port):
+                return None
             connection.request(method, f"/{self.key}{path}")
             return connection.getresponse().status
         except (OSError, http.client.HTTPException):

@@ -19,6 +19,7 @@ import stat
 import subprocess
 import sys
 import tempfile
+import threading
 import time
 
 from checks import PROGRAM, TOP, content_of, end, expect, mmpkg, run, run_checks
@@ -81,6 +82,28 @@ def shown_until(window, words):
         shown += b"" if words.encode() in shown else read_until(window, words.encode())
     assert words.encode() in shown, f"{words!r} isn't shown, but {shown}"
     return shown.decode()
+
+
+@contextlib.contextmanager
+def listening_as(user):
+    """A port of this machine that is another user's."""
+    os.seteuid(user)
+    try:
+        listener = socket.create_server(("127.0.0.1", 0))
+    finally:
+        os.seteuid(0)
+    with listener:
+        yield listener
+        listener.shutdown(socket.SHUT_RDWR)
+
+
+def hear(listener, heard):
+    """Keeps what comes on each connection, and ends it."""
+    with contextlib.suppress(OSError):
+        while True:
+            with listener.accept()[0] as connection:
+                connection.settimeout(AT_ONCE)
+                heard.append(connection.recv(1000))
 
 
 def bare():
@@ -262,6 +285,19 @@ def check_the_key():
         key.symlink_to("/dev/null")
         said = Started(file).wait(2)
         assert "trip.mmpkg.key" in said[-1], said
+
+
+def check_a_port_of_another_user():
+    """Another user's program at the port never reads the key. Only root can try it."""
+    if os.getuid() != 0:
+        return
+    with folder_with() as file, listening_as(65534) as listener:
+        port = listener.getsockname()[1]
+        heard = []
+        threading.Thread(target=hear, args=(listener, heard), daemon=True).start()
+        started = Started(file, port=port)
+        assert started.wait(2)[-1].startswith(f"port {port}: another program has it"), started.said
+        expect(b"".join(heard), b"", "what was heard")
 
 
 def check_the_address_without_the_key():

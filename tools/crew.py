@@ -10,15 +10,17 @@ else may read: so the address is the same tomorrow, and what a browser keeps is 
 
 When the program ends by a fault, or is killed, it is started again, and the page goes on. Ctrl-C, or 'End the day' in
 the page, ends it well: then FILE alone holds all, and may be copied. What can't be opened at the first start is told in
-words. --no-browser opens none; --wait keeps the window open at the end until Enter is pressed.
+words. --no-browser opens none; --wait keeps the window open at the end until Enter is pressed. Where FILE is opened a
+second time at the same PORT, the day goes on there, and the first window says so.
 
 The program is the one that the environment's MMPKG names, else out/mmpkg of this repository, else mmpkg of the path.
 
-Exit status: 0 the day was ended; 2 wrong arguments, or a file or port that can't be had; 3 the program ends again and
-again, or a fault; 4 FILE is no package, or one that breaks a rule.
+Exit status: 0 the day was ended, or goes on in another window; 2 wrong arguments, or a file or port that can't be had;
+3 the program ends again and again, or a fault; 4 FILE is no package, or one that breaks a rule.
 """
 
 import contextlib
+import fcntl
 import http.client
 import http.server
 import os
@@ -327,20 +329,20 @@ class Desk:
         refuse(self.file, self.file, status if status > 0 else 3, said or "it can not be opened")
 
     def end(self):
-        """Ends the program well, as far as it lets, and answers whether FILE alone holds all then.
+        """Ends the program well, as far as it lets.
 
         While it still checks the package it has no port, so it is asked again.
         """
-        if self.running is not None and self.running.poll() is None:
-            tell("Ending the day ..")
-            until = time.monotonic() + PATIENCE
-            while self.running.poll() is None and (left := until - time.monotonic()) > 0:
-                self.ask("POST", "/end", seconds=left)
-                with contextlib.suppress(subprocess.TimeoutExpired):
-                    self.running.wait(min(left, 1))
-            self.running.kill()
-            self.running.wait()
-        return not has_commits(self.file)
+        if self.running is None or self.running.poll() is not None:
+            return
+        tell("Ending the day ..")
+        until = time.monotonic() + PATIENCE
+        while self.running.poll() is None and (left := until - time.monotonic()) > 0:
+            self.ask("POST", "/end", seconds=left)
+            with contextlib.suppress(subprocess.TimeoutExpired):
+                self.running.wait(min(left, 1))
+        self.running.kill()
+        self.running.wait()
 
 
 def how_long(file):
@@ -357,24 +359,66 @@ def stop(*_):
     raise KeyboardInterrupt
 
 
+@contextlib.contextmanager
+def claimed(file):
+    """A claim on a package while this window works, beside those of other windows; None where the key isn't kept."""
+    with contextlib.ExitStack() as held:
+        claim = None
+        with contextlib.suppress(OSError):
+            claim = held.enter_context(open(f"{file}.key", "rb"))
+            fcntl.flock(claim, fcntl.LOCK_SH)
+        yield claim
+
+
+def is_shared(claim):
+    """Whether another window has a claim too; this one has none behind that."""
+    if claim is None:
+        return False
+    try:
+        fcntl.flock(claim, fcntl.LOCK_EX | fcntl.LOCK_NB)
+    except BlockingIOError:
+        return True
+    except OSError:  # a disk that has no locks
+        return False
+    finally:
+        claim.close()
+    return False
+
+
+def make_ready(desk):
+    """Gets the package from an earlier start, where there is one, and brings the page in, where it is to be."""
+    file, table = desk.file, desk.given.table
+    earlier = desk.end_earlier()
+    if earlier or not has_page(file, table):
+        expect_package(file, patience=PATIENCE if earlier else 0)
+    if not has_page(file, table):
+        tell("The page is brought in: it is missing, or older than these tools.")
+        bring_page(file, table)
+
+
+def tell_end(file, claim):
+    """Tells where the package stands when the program has ended."""
+    if is_shared(claim):
+        tell(f"{file} is open in another window, where the day goes on.")
+    elif has_commits(file):
+        raise Refused(f"{file}: the program didn't end well: keep {file} and {file}-wal together", 3)
+    else:
+        tell(f"The day is ended: {file} alone holds all, and may be copied.")
+
+
 def work(given):
     file = given.FILE or the_only_package()
     if not file.exists():
         raise Refused(f"{file}: isn't there; 'mmpkg init {shlex.quote(str(file))}' makes an empty package", 4)
     desk = Desk(given, file, key_of(file))
-    tell(f"{file} is opened: first it is checked as a whole{how_long(file)}.")
-    earlier = desk.end_earlier()
-    if earlier or not has_page(file, given.table):
-        expect_package(file, patience=PATIENCE if earlier else 0)
-    if not has_page(file, given.table):
-        tell("The page is brought in: it is missing, or older than these tools.")
-        bring_page(file, given.table)
-    try:
-        desk.day()
-    except KeyboardInterrupt:
-        if not desk.end():
-            raise Refused(f"{file}: the program didn't end well: keep {file} and {file}-wal together", 3) from None
-    tell(f"The day is ended: {file} alone holds all, and may be copied.")
+    with claimed(file) as claim:
+        tell(f"{file} is opened: first it is checked as a whole{how_long(file)}.")
+        make_ready(desk)
+        try:
+            desk.day()
+        except KeyboardInterrupt:
+            desk.end()
+        tell_end(file, claim)
     return 0
 
 

@@ -252,6 +252,24 @@ def check_an_end_before_the_page():
         expect(desks(file), [], "desks that are left")
 
 
+def check_a_second_window():
+    """A second start takes the package over, and the first says so; one that was refused has no part in it."""
+    with folder_with() as file:
+        first = Started(file)
+        address = first.address()
+        second = Started(file, port=first.port)
+        expect(second.address(), address, "the address")
+        expect(first.wait()[-1], f"{file} is open in another window, where the day goes on.", "what the first says")
+        refused, window = in_a_window(file, "--port", str(free_port()), "--wait")
+        shown = shown_until(window, "Press Enter")
+        assert "another program has the file" in shown, shown
+        status_of(f"{address}/end", "-X", "POST")
+        expect(second.wait()[-1], ENDED.format(file), "what the second says")
+        os.write(window, b"\n")
+        expect(refused.wait(AT_ONCE), 3, "the status of the third")
+        os.close(window)
+
+
 def check_a_window_that_is_closed():
     """Closing the window ends the day, though nothing can be told there any more."""
     with folder_with() as file:

@@ -415,8 +415,9 @@ def work(given):
         tell(f"{file} is opened: first it is checked as a whole{how_long(file)}.")
         make_ready(desk)
         try:
-            desk.day()
-        except KeyboardInterrupt:
+            with contextlib.suppress(KeyboardInterrupt):
+                desk.day()
+        finally:
             desk.end()
         tell_end(file, claim)
     return 0

@@ -63,8 +63,13 @@ def decimal(value):
 
 def is_northing_first(definition):
     """Whether a system's northing comes before its easting by the axes of its WKT; None where that names none."""
-    axes = re.findall(r'AXIS\["[^"]*",\s*([A-Za-z]+)', definition)
-    return axes[-2].upper() in ("NORTH", "SOUTH") if len(axes) >= 2 else None
+    plane = re.split(r"\bVERT(?:_CS|CRS|ICALCRS)\s*\[", definition)[0]
+    axes = re.findall(r'AXIS\["([^"]*)",\s*([A-Za-z]+)', plane)[-2:]
+    if len(axes) < 2:
+        return None
+    (name, way), (_, other) = axes
+    # Around a pole both axes have one way, and their names tell which is which.
+    return bool(re.match(r"\(?N", name, re.IGNORECASE)) if way == other else way.upper() in ("NORTH", "SOUTH")
 
 
 class Map:

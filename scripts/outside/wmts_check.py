@@ -23,6 +23,9 @@ from checks import TOP, end, expect, mmpkg, run, run_checks
 from viewer_package import served
 
 TOOLS = TOP / "tools"
+sys.path.insert(0, str(TOOLS))
+import wmts  # noqa: E402
+
 PYTHON = "/usr/bin/python3"
 
 # Name, system, lower left corner in metres, columns, rows, metres of a pixel, and the format of the tiles. The last two
@@ -168,6 +171,20 @@ class Scene:
 def check_what_is_named(scene):
     """Maps that WMTS doesn't tell are named, and the order of axes that nothing tells."""
     expect(sorted(scene.told.splitlines()), sorted(NAMED), "what is told")
+
+
+def check_the_order_of_axes(_):
+    """Heights are no axis of the plane, and around a pole the names of the axes tell their order (EPSG 25832, 31468, 5972, 3031, 32661)."""
+    utm = 'PROJCS["n",AXIS["Easting",EAST],AXIS["Northing",NORTH]]'
+    for definition, northing_first in (
+        (utm, False),
+        ('PROJCS["n",AXIS["X",NORTH],AXIS["Y",EAST]]', True),
+        (f'COMPD_CS["h",{utm},VERT_CS["v",AXIS["Gravity-related height",UP]]]', False),
+        ('PROJCS["n",AXIS["Easting",NORTH],AXIS["Northing",NORTH]]', False),
+        ('PROJCRS["n",AXIS["(N)",south,ORDER[1]],AXIS["(E)",south,ORDER[2]]]', True),
+        ('PROJCS["n"]', None),
+    ):
+        expect(wmts.is_northing_first(definition), northing_first, f"whether the northing is first in {definition}")
 
 
 def check_by_gdal(scene):

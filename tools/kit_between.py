@@ -56,7 +56,8 @@ kit.csv, where the others are numbered anew.
 
 With --renumber rows and media that AFTER made, and OTHER made otherwise under the same number, are new ones and no
 conflict: they get the next numbers behind all that their table has, their mapping rows too. renumbered.csv has what,
-table, old and new number.
+table, old and new number. Numbers of the crew's page stay: what has one of these on both sides is one row. So a crew
+that comes home once more needs no --renumber; BEFORE is its copy as it came home last.
 
 Exit status: 0 all was written; 1 something was left out, or was a conflict; 2 wrong arguments, or a file that can't be
 read or written; else what 'mmpkg check' ended with, whose line is told: 3 a fault, 4 no package or one that breaks a

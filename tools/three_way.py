@@ -48,17 +48,23 @@ def in_order(kind, zooms):
     return all(at_low > at_high for at_low, at_high in pairs)
 
 
+# The least number that the crew's page makes, that of 2026 begun (docs/FORMATS.md, 'Numbers and places of a crew'): no two crews have one, so
+# what has it on both sides is one row.
+LEAST_OF_PAGE = 4096 * 189_388_800_000
+
+
 def renumbered(before, after, other):
     """AFTER with other numbers for new rows and media that collide with OTHER's, and by key the numbers that changed.
 
-    The next numbers behind all that a table has anywhere are taken. Mapping rows go along.
+    The next numbers behind all that a table has anywhere are taken. Mapping rows go along. Numbers of the page stay.
     """
     used = collections.defaultdict(set)
     for name, number in (key for state in (before, after, other) for key in state["items"]):
         used[name].add(number)
     numbers = {}
     for key, value in sorted(after["items"].items()):
-        if key not in before["items"] and other["items"].get(key, value) != value:
+        collides = key not in before["items"] and other["items"].get(key, value) != value
+        if collides and key[1] < LEAST_OF_PAGE:
             numbers[key] = next_number(used[key[0]])
             used[key[0]].add(numbers[key])
     items = {(key[0], numbers.get(key, key[1])): value for key, value in after["items"].items()}

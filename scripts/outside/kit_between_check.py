@@ -33,6 +33,7 @@ from package_views import query_of, table_rows  # noqa: E402
 from random_records import OPENING, Author  # noqa: E402
 
 TOOL = TOP / "tools" / "kit_between.py"
+LEAST_OF_PAGE = 4096 * 189_388_800_000
 DEFAULT_SEED = 1
 DEFAULT_ROUNDS = 40
 MOST_PIECES = 4096
@@ -215,7 +216,8 @@ def renumbered(after, before, other, out):
     if (out / "renumbered.csv").exists():
         with open(out / "renumbered.csv", newline="", encoding="utf-8") as opened:
             numbers = {("item", table, int(old)): ("item", table, int(new)) for _, table, old, new in list(csv.reader(opened))[1:]}
-    wanted = {key for key in after if key[0] == "item" and key not in before and other.get(key, after[key]) != after[key]}
+    collide = {key for key in after if key[0] == "item" and key not in before and other.get(key, after[key]) != after[key]}
+    wanted = {key for key in collide if key[2] < LEAST_OF_PAGE}
     expect(numbers.keys(), wanted, "what is renumbered")
     expect([key for key in numbers.values() if key in after or key in before or key in other], [], "numbers that are taken")
     expect(len(set(numbers.values())), len(numbers), "new numbers")
@@ -566,6 +568,17 @@ def check_new_numbers(folder, _):
     expect((folder / "kept" / "renumbered.csv").read_text(), "what,table,old,new\nmedia,photos,2,3\nrow,spots,4,6\n", "renumbered.csv")
     assert ",map,spots_photos,6,3\n" in (folder / "kept" / "home" / "kit.csv").read_text(), "the mapping row isn't there"
     run(TOOL, before.file, after.file, "home", folder / "out", "--renumber", status=2)
+
+
+def check_numbers_of_the_page(folder, _):
+    """A row of the page that comes home twice is one row: with --renumber too it is a conflict where it was changed meanwhile."""
+    page = f"row,spots,{LEAST_OF_PAGE + 17}"
+    before = by_hand(new_package(folder / "before.mmpkg"), CREWS)
+    other = by_hand(before.copy(folder / "other.mmpkg"), f"{page},Oak,Monday,1\n")
+    after = by_hand(before.copy(folder / "after.mmpkg"), f"{page},Oak,Tuesday,1\n")
+    conflicts, told = expect_between(before, after, other, folder, True, renumber=True)
+    expect(conflicts, [["row", f"spots {LEAST_OF_PAGE + 17}"]], "conflicts")
+    assert "renumbered" not in told, told
 
 
 def check_wrong_order(folder, _):

@@ -185,11 +185,16 @@ def program():
     return named
 
 
+def journal_of(file):
+    """The journal of a package: of a link it stands beside the file that this leads to."""
+    return pathlib.Path(f"{os.path.realpath(file)}-wal")
+
+
 def copy_with_journal(file, copy):
     """Copies a package and its journal, as far as they are there."""
-    for suffix in ("", "-wal"):
-        if pathlib.Path(f"{file}{suffix}").exists():
-            shutil.copyfile(f"{file}{suffix}", f"{copy}{suffix}")
+    for path, suffix in ((file, ""), (journal_of(file), "-wal")):
+        if path.exists():
+            shutil.copyfile(path, f"{copy}{suffix}")
 
 
 def pace_file():
@@ -275,13 +280,14 @@ class Source:
 
     def passes_here(self):
         """Whether FILE can be read as it is. A journal that only the check made is taken away again."""
-        there = pathlib.Path(f"{self.file}-wal").exists()
-        may_be_written = all(os.access(it, os.W_OK) for it in (self.file, self.file.absolute().parent))
+        journal = journal_of(self.file)
+        there = journal.exists()
+        may_be_written = all(os.access(it, os.W_OK) for it in (self.file, journal.parent))
         if not may_be_written or has_commits(self.file):
             return False
         status, said = program_says("check", self.file)
         if not there and not has_commits(self.file):
-            pathlib.Path(f"{self.file}-wal").unlink(missing_ok=True)
+            journal.unlink(missing_ok=True)
         if status not in (0, 3):
             refuse(self.file, self.file, status, said)
         self.stamps = stamps_of(self.file)
@@ -299,8 +305,7 @@ class Source:
 
 def sizes_of(file):
     """The sizes of a package's file and its journal; one that isn't there has none."""
-    paths = [pathlib.Path(f"{file}{suffix}") for suffix in ("", "-wal")]
-    return [it.stat().st_size if it.exists() else 0 for it in paths]
+    return [it.stat().st_size if it.exists() else 0 for it in (pathlib.Path(file), journal_of(file))]
 
 
 def has_commits(file):
@@ -342,6 +347,12 @@ def expect_new(path):
         raise Refused(f"{path}: is there, and is not overwritten; remove it, or choose another name")
     if not path.parent.is_dir():
         raise Refused(f"{path.parent}: is no folder")
+
+
+def expect_new_database(path):
+    """Refuses also where a journal stands beside the name: SQLite would take it for that of the new file."""
+    for suffix in ("", "-wal", "-journal", "-shm"):
+        expect_new(pathlib.Path(f"{path}{suffix}"))
 
 
 @contextlib.contextmanager

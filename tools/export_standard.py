@@ -34,7 +34,7 @@ from border import (
     Source,
     arguments,
     bounds_of,
-    expect_new,
+    expect_new_database,
     made_beside,
     quoted,
     run_tool,
@@ -205,7 +205,7 @@ def points_of(out, name, report):
     ).fetchall()
     # Geometries have 32 bits for the number of a system.
     numbers = {it for (it,) in out.execute("SELECT srs_id FROM package.gpkg_spatial_ref_sys")}
-    only, systems = only_system(out), {it for it in numbers if 0 < it < 2**31 and it != 4326}
+    only, systems = only_system(out), {it for it in numbers if -1 <= it < 2**31 and it not in (0, 4326)}
     found = [(row, *points.place_in(row[2], only)) for row in rows]
     system = points.system_of([place for _, place, _ in found if place], systems)
     placed = []
@@ -330,6 +330,7 @@ def main():
     given = parser.parse_args()
     if given.OUT.suffix != ".gpkg":
         raise Refused(f"{given.OUT}: a GeoPackage's name ends with .gpkg")
+    expect_new_database(given.OUT)
     with tempfile.TemporaryDirectory() as name, made_beside(given.OUT) as beside:
         source = Source(given.FILE, pathlib.Path(name))
         made = beside / given.OUT.name
@@ -339,7 +340,7 @@ def main():
         except sqlite3.Error as error:
             raise Refused(f"{given.OUT}: {error}") from error
         source.expect_unchanged()
-        expect_new(given.OUT)
+        expect_new_database(given.OUT)
         os.rename(made, given.OUT)
     report.tell_notes()
     return 0

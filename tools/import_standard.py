@@ -74,8 +74,13 @@ from border import (
 
 APPLICATION_IDS = {int.from_bytes(mark, "big") for mark in (b"GPKG", b"GP10", b"GP11")}
 GEOGRAPHIC = re.compile(r"\s*(GEOGCS|GEOGCRS|GEODCRS|GEOGRAPHICCRS|GEODETICCRS|GEOCCS)\b")
-PROJECTED = re.compile(r"\s*(PROJCS|PROJCRS|PROJECTEDCRS)\b")
-WKT_TOKEN = re.compile(r'UNIT\["[^"]*",\s*([0-9]+(?:\.[0-9]*)?(?:[eE][+-]?[0-9]+)?)|"[^"]*"|[\[\]]')
+METRIC = re.compile(r"\s*(PROJCS|PROJCRS|PROJECTEDCRS|LOCAL_CS|ENGCRS|ENGINEERINGCRS)\b")
+# A system with heights, whose first part is that of the plane.
+COMPOUND = re.compile(r'\s*(COMPD_CS|COMPOUNDCRS)\s*\[\s*"[^"]*"\s*,')
+METRES = r'UNIT\["[^"]*",\s*([0-9]+(?:\.[0-9]*)?(?:[eE][+-]?[0-9]+)?)'
+WKT_TOKEN = re.compile(METRES + r'|"[^"]*"|[\[\]]')
+# In the newer WKT each axis may have a unit of its own.
+AXIS_UNIT = re.compile(r'AXIS\["[^"]*",\s*\w+,\s*(?:ORDER\[\d+\],\s*)?(?:LENGTH)?' + METRES)
 
 # What becomes of the standard's extensions: these come back by themselves, and of the others nothing crosses.
 OWN_EXTENSIONS = {"gpkg_zoom_other", "gpkg_webp", "gpkg_related_tables", "related_tables"}
@@ -93,7 +98,8 @@ def metres_of_unit(definition):
         if token[1] and depth == 1:
             return float(token[1])
         depth += {"]": -1, "[": 1}.get(token[0], 1 if token[1] else 0)
-    return None
+    axis = AXIS_UNIT.search(definition)
+    return float(axis[1]) if axis else None
 
 
 def name_for(name):
@@ -120,9 +126,10 @@ def why_no_system(row):
         return "its name, organization or description is no text within the limits"
     if not is_text(definition, 1, DEFINITION_LIMIT):
         return "its definition is no text within the limits"
-    if GEOGRAPHIC.match(definition):
+    plane = COMPOUND.sub("", definition, count=1)
+    if GEOGRAPHIC.match(plane):
         return "it is geographic"
-    if PROJECTED.match(definition) and metres_of_unit(definition) not in (None, 1.0):
+    if METRIC.match(plane) and metres_of_unit(plane) not in (None, 1.0):
         return "its unit isn't the metre"
     return None
 
@@ -155,8 +162,9 @@ def read_only(file):
 
     Where a journal stands, what is in it is read too.
     """
+    file = file.resolve()
     journal = any(pathlib.Path(f"{file}{suffix}").exists() for suffix in ("-wal", "-journal"))
-    return f"{file.resolve().as_uri()}?mode=ro{'' if journal else '&immutable=1'}"
+    return f"{file.as_uri()}?mode=ro{'' if journal else '&immutable=1'}"
 
 
 class Standard:
@@ -229,11 +237,20 @@ class Standard:
     def read_bounds(self):
         """The table of bounds that are less than the tiles, where there are some and it didn't come in by itself."""
         if BOUNDS_TABLE in self.kinds or BOUNDS_IDENTIFIER in self.identifiers:
+            told = self.told_bounds()
+            for name in [it for it, bounds in self.bounds.items() if told.get(it) != text_of_bounds(bounds)]:
+                self.report.note(f"bounds of {name}", f"they don't come in: {BOUNDS_TABLE} of IN.gpkg tells others, or none")
             self.bounds = {}
         if self.bounds:
             self.records.append(["table", BOUNDS_TABLE, "attributes", BOUNDS_IDENTIFIER])
         for name in self.bounds:
             self.report.note(f"bounds of {name}", f"its tiles reach further; the table {BOUNDS_TABLE} keeps them")
+
+    def told_bounds(self):
+        """What the table of bounds tells that came in by itself, by the name of the map."""
+        if self.kinds.get(BOUNDS_TABLE) != "attributes":
+            return {}
+        return dict(self.rows(self.theirs[BOUNDS_TABLE], ["title", "note"], "1"))
 
     def read_systems(self):
         names = ["srs_id", "srs_name", "organization", "organization_coordsys_id", "definition", "description"]
@@ -495,7 +512,7 @@ class Standard:
             yield from readers[kind](name, self.theirs[name])
         for name, bounds in self.bounds.items():
             # Several imports into one package don't take each other's numbers.
-            yield Piece(["row", BOUNDS_TABLE, zlib.crc32(name.encode()) + 1, name, " ".join(map(str, bounds)), 0])
+            yield Piece(["row", BOUNDS_TABLE, zlib.crc32(name.encode()) + 1, name, text_of_bounds(bounds), 0])
         for relation in self.relations:
             yield from self.mapping_rows(*relation)
 
@@ -569,6 +586,11 @@ class Standard:
                 )
 
 
+def text_of_bounds(bounds):
+    """Bounds as the note of a row keeps them."""
+    return " ".join(map(str, bounds))
+
+
 def placed(note, geometry, system):
     """A note with the place of a geometry in front of it, and why there is none."""
     try:
@@ -577,7 +599,7 @@ def placed(note, geometry, system):
         return note, "its geometry is no point"
     if found is None or not isinstance(note, str):
         return note, None
-    if max(map(abs, found)) >= points.COORDINATE_LIMIT:
+    if not all(abs(round(it, 6)) < points.COORDINATE_LIMIT for it in found):
         return note, "its place is outside the limits"
     word = points.Place(system, *found).word()
     return f"{word} {note}" if note else word, None

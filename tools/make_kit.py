@@ -39,9 +39,11 @@ def tiles_of(folder, report):
     """The tiles of a folder as zoom, column, row and file, in their order."""
     tiles = []
     for file in sorted(folder.rglob("*")):
-        if file.is_dir():
-            continue
         path = file.relative_to(folder).as_posix()
+        if file.is_dir():
+            if file.is_symlink():
+                report.left_out(path, "it is a link to a folder, and its tiles aren't looked for")
+            continue
         place = TILE.fullmatch(path)
         zoom, column, row = map(int, place.groups()) if place else (-1, -1, -1)
         if place is None or zoom > ZOOM_LIMIT or max(column, row) >= MATRIX_LIMIT:

@@ -6,9 +6,12 @@ import math
 import re
 import struct
 
+# Unicode's White_Space: what the patterns of Python and of the page's language mean by theirs is not the same.
+SPACE = r"[\t-\r \x85\xa0\u1680\u2000-\u200a\u2028\u2029\u202f\u205f\u3000]"
 PLACE = re.compile(
-    r"(?:^|\s)@(?:([1-9][0-9]{0,15}):)?(-?[0-9]{1,9}(?:\.[0-9]{1,6})?)/(-?[0-9]{1,9}(?:\.[0-9]{1,6})?)(?=\s|$)",
-    re.ASCII,
+    r"(?:^|SPACE)@(?:(-1|[1-9][0-9]{0,15}):)?(-?[0-9]{1,9}(?:\.[0-9]{1,6})?)/(-?[0-9]{1,9}(?:\.[0-9]{1,6})?)(?=SPACE|$)".replace(
+        "SPACE", SPACE
+    )
 )
 COORDINATE_LIMIT = 1_000_000_000
 # The bytes of an envelope by its kind in the flags of a geometry.
@@ -77,4 +80,4 @@ def point_in(data):
         east, north = struct.unpack_from(order + "dd", data, start + 5)
     except (struct.error, KeyError, IndexError, TypeError) as error:
         raise OtherGeometry from error
-    return (east, north) if math.isfinite(east) and math.isfinite(north) else None
+    return None if math.isnan(east) and math.isnan(north) else (east, north)

@@ -24,7 +24,7 @@ import pathlib
 import sqlite3
 import sys
 
-from border import Refused, arguments, copy_with_journal, expect_new, made_beside, program_says, quoted, run_tool
+from border import Refused, arguments, copy_with_journal, expect_new_database, made_beside, program_says, quoted, run_tool
 
 # The tables of a package with their columns (docs/FORMATS.md, section 2).
 TABLES = {
@@ -142,14 +142,14 @@ def main():
     given = parser.parse_args()
     if given.OUT.suffix != ".mmpkg":
         raise Refused(f"{given.OUT}: a package's name ends with .mmpkg, so that GDAL and QGIS leave it alone")
-    expect_new(pathlib.Path(f"{given.OUT}-wal"))
+    expect_new_database(given.OUT)
     if not given.FILE.is_file():
         raise Refused(f"{given.FILE}: is no file")
     with made_beside(given.OUT) as beside:
         made = beside / given.OUT.name
         copy_with_journal(given.FILE, made)
         mend(given.FILE, made)
-        expect_new(given.OUT)
+        expect_new_database(given.OUT)
         os.rename(made, given.OUT)
     print(f"{given.OUT}: package ok", file=sys.stderr)
     return 0

@@ -28,6 +28,8 @@ from checks import PROGRAM, TOP, end, expect, mmpkg, run, run_checks
 
 TOOLS = TOP / "tools"
 sys.path.insert(0, str(TOOLS))
+import import_standard  # noqa: E402
+import points  # noqa: E402
 from border import KIT_PIECES, UNITS_OF_VERSION, UNITS_PER_METRE, Piece, media_piece, record, tile_piece, whole_units  # noqa: E402
 
 UTM = 'PROJCS["a grid",GEOGCS["g",DATUM["d",SPHEROID["s",6378137,298]],PRIMEM["p",0],UNIT["degree",0.01745]],UNIT["metre",1]]'
@@ -327,6 +329,23 @@ def check_what_is_whole(_):
         expect(whole_units(metres), units, f"{metres} m in units")
 
 
+FOOT, METRE, DEGREE = 'UNIT["US survey foot",0.3048006]', 'UNIT["metre",1]', 'UNIT["degree",0.0174532925199433]'
+NEWER = ('PROJCRS["n",BASEGEOGCRS["g",PRIMEM["p",0,ANGLEUNIT["degree",0.0174532925199433]]],CONVERSION["c",METHOD["m"],'
+         'PARAMETER["p",0,LENGTHUNIT["metre",1]]],CS[Cartesian,2],AXIS["(E)",east,ORDER[1],LENGTH{0}],AXIS["(N)",north,ORDER[2],LENGTH{0}]]')
+
+
+def check_units_of_systems(_):
+    """A system is taken only where its coordinates are no degrees and no feet, also with heights, of a site alone, and in the newer WKT."""
+    plane = f'PROJCS["n",GEOGCS["g",{DEGREE}],{{}}]'
+    foot, degrees = "its unit isn't the metre", "it is geographic"
+    for definition, why in ((plane.format(METRE), None), (plane.format(FOOT), foot), (f'GEOGCS["g",{DEGREE}]', degrees),
+                            (f'COMPD_CS["h",{plane.format(METRE)},VERT_CS["v",{FOOT}]]', None),
+                            (f'COMPD_CS["h",{plane.format(FOOT)},VERT_CS["v",{METRE}]]', foot),
+                            (f'COMPD_CS["h",GEOGCS["g",{DEGREE}],VERT_CS["v",{METRE}]]', degrees), (f'LOCAL_CS["site",{FOOT}]', foot),
+                            (f'LOCAL_CS["site",{METRE}]', None), (NEWER.format(METRE), None), (NEWER.format(FOOT), foot), ("undefined", None)):
+        expect(import_standard.why_no_system((9, "n", "EPSG", 9, definition, "")), why, f"why {definition} is no system")
+
+
 def check_what_is_left_out(folder):
     """Each thing that a package can't hold is named, and the rest is taken whole."""
     new_package(folder / "a.mmpkg", nine_tiles() + "pyramid,fine,fine,25832,0,0,32,32,two\n")
@@ -405,6 +424,41 @@ def patched(name, patch, *words, status=0):
     heard = "signal.signal(signal.SIGINT, signal.default_int_handler)"
     code = f"import sys, os, signal, types, border, {name}\n{heard}\n{patch}\n{name}.run_tool({name}.main)"
     return run("env", f"PYTHONPATH={TOOLS}", sys.executable, "-B", "-c", code, *words, status=status)
+
+
+def check_a_link_to_a_package(folder):
+    """A package is read with its journal, and a GeoPackage with its own, also where a link in another folder leads to it."""
+    for name in ("here", "there"):
+        (folder / name).mkdir()
+    new_package(folder / "here" / "a.mmpkg", nine_tiles())
+    (folder / "there" / "a.mmpkg").symlink_to(folder / "here" / "a.mmpkg")
+    with subprocess.Popen([PROGRAM, "run", folder / "here" / "a.mmpkg", "--at", "0"], stdin=subprocess.PIPE, stdout=subprocess.PIPE) as running:
+        running.stdin.write(b"row,spots,1,Oak,,2\n")
+        running.stdin.flush()
+        expect(running.stdout.readline(), b"1 ok\n", "the answer")
+        export(folder / "there" / "a.mmpkg", folder / "here" / "out.gpkg")
+        running.kill()
+    tool("repair_gis.py", folder / "there" / "a.mmpkg", folder / "mended.mmpkg")
+    expect(mmpkg("show", folder / "mended.mmpkg", "spots", "1"), "row,spots,1,Oak,,2\n", "the row of the journal")
+    (folder / "there" / "in.gpkg").symlink_to(folder / "here" / "out.gpkg")
+    with contextlib.closing(sqlite3.connect(folder / "here" / "out.gpkg")) as opened:
+        expect(opened.execute("SELECT title FROM spots ORDER BY id").fetchall(), [("Oak",), ("Well",)], "rows that went out")
+        opened.execute("PRAGMA journal_mode = WAL")
+        opened.execute("UPDATE spots SET title = 'Ash' WHERE id = 1")
+        opened.commit()
+        tool("import_standard.py", folder / "there" / "in.gpkg", folder / "list.csv")
+    assert "row,spots,1,Ash,,2\n" in (folder / "list.csv").read_text(), "the row of the GeoPackage's journal"
+
+
+def check_a_journal_beside_a_name(folder):
+    """Nothing is made where a journal of an earlier file would be taken for its own."""
+    new_package(folder / "a.mmpkg", nine_tiles())
+    for name, out, suffix in (("export_standard.py", "out.gpkg", "-wal"), ("export_standard.py", "other.gpkg", "-journal"),
+                              ("repair_gis.py", "back.mmpkg", "-wal")):
+        (folder / f"{out}{suffix}").write_bytes(b"of before")
+        _, told = tool(name, folder / "a.mmpkg", folder / out, status=2)
+        assert f"{out}{suffix}: is there, and is not overwritten" in told, told
+        expect((folder / out).exists(), False, "whether it was made")
 
 
 def check_reading_in_place(folder):
@@ -502,6 +556,11 @@ def check_bounds_are_kept(folder):
         validate(folder / f"out_{number}.gpkg")
         assert "Size is 1500, 1100" in run("gdalinfo", folder / f"out_{number}.gpkg")[0], "the size by GDAL"
     expect_equal(folder / "0.mmpkg", folder / "1.mmpkg")
+    with contextlib.closing(sqlite3.connect(folder / "out_1.gpkg")) as opened:
+        opened.execute("UPDATE gpkg_contents SET max_x = max_x - 100 WHERE table_name = 'base'")
+        opened.commit()
+    _, told = tool("import_standard.py", folder / "out_1.gpkg", folder / "2.csv")
+    expect(told, "note: bounds of base: they don't come in: map_bounds of IN.gpkg tells others, or none\n", "what is told of other bounds")
 
 
 HANDED_OVER = """
@@ -628,6 +687,24 @@ SHAPES = {
 }
 
 
+def check_places_of_a_plan(folder):
+    """Places in the system without a definition, and behind spaces that aren't ASCII, go out and come in; what no place can be is named."""
+    layout = "table,spots,attributes,Spots\npyramid,plan,Plan,-1,0,0,64000000,64000000,two\nmatrix,plan,0,1,1,64,64,1000000,1000000\n"
+    rows = [["row", "spots", 1, "Oak", "@-1:500.5/600.25 old", 0], ["row", "spots", 2, "Ash", "tall\u00a0@5/6", 0]]
+    new_package(folder / "a.mmpkg", layout + "".join(map(record, rows)))
+    _, told = tool("export_standard.py", folder / "a.mmpkg", folder / "out.gpkg", "--points", "spots")
+    expect(told, "", "what is told")
+    tool("import_standard.py", folder / "out.gpkg", folder / "list.csv", "--all-zooms")
+    lines = [line for line in (folder / "list.csv").read_text().splitlines() if line.startswith("row,")]
+    expect(lines, ["row,spots,1,Oak,@-1:500.5/600.25 old,0", "row,spots,2,Ash,@-1:5/6 tall,0"], "rows that come in")
+    with contextlib.closing(sqlite3.connect(folder / "out.gpkg")) as opened:
+        for number, east in ((1, float("inf")), (2, 999_999_999.9999998)):
+            opened.execute("UPDATE spots SET geom = ? WHERE id = ?", (points.geometry_of(points.Place(-1, east, 5)), number))
+        opened.commit()
+    _, told = tool("import_standard.py", folder / "out.gpkg", folder / "list_2.csv", "--all-zooms", status=1)
+    expect(told.splitlines(), [f"left out: row {it} of spots: its place is outside the limits" for it in (1, 2)], "what is named")
+
+
 def check_points_of_other_programs(folder):
     """Points in either order of bytes, with heights, and empty ones come in; what is no point is named, and the rest comes in."""
     points_package(folder / "a.mmpkg")
@@ -694,6 +771,18 @@ def check_kit_of_gdal2tiles(folder):
     validate(folder / "out.gpkg")
     found = [colour_at(folder / "out.gpkg", 128 + 256 * (number % 3), 640 - 256 * (number // 3)) for number in range(9)]
     expect(found, page_map.COLOURS, "colours")
+
+
+def check_a_folder_of_links(folder):
+    """A link to a tile is a tile, and a link to a folder is named."""
+    for place in ("tiles/3/0", "disk/4/0"):
+        (folder / place).mkdir(parents=True)
+    (folder / "disk" / "4" / "0" / "0.png").write_bytes(b"a tile")
+    (folder / "tiles" / "3" / "0" / "0.png").symlink_to(folder / "disk" / "4" / "0" / "0.png")
+    (folder / "tiles" / "4").symlink_to(folder / "disk" / "4")
+    _, told = tool("make_kit.py", folder / "tiles", "base", "first", folder / "kit", status=1)
+    expect(told, "left out: 4: it is a link to a folder, and its tiles aren't looked for\n", "what is told")
+    assert "tile,base,3,0,0" in (folder / "kit" / "kit.csv").read_text(), "the tile isn't in the kit"
 
 
 def check_kits_of_many_tiles(folder):

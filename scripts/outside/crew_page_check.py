@@ -252,8 +252,10 @@ def check_search_and_order(scene):
 
 
 def check_words_for_what_is_no_row(scene):
-    """What is no row is told in words, and nothing of it is kept or sent."""
+    """What is no row is told in words, and nothing of it is kept or sent. A place in a system without a definition is one."""
     seat, crew = scene.begin()
+    place = "placeIn(noteOf({ system: -1, east: '500.5', north: '-6' }, 'oak'))"
+    expect(crew.value(place), {"system": -1, "east": "500.5", "north": "-6", "rest": "oak"}, "a place of a plan")
     crew.press("fresh")
     for fields, words in (({"amount": "1.5"}, "whole number"), ({"amount": "007"}, "whole number"), ({"amount": "1000000000000001"}, "whole number"),
                           ({"amount": "1", "title": "é" * 501}, "title has more"), ({"title": "x", "note": "n" * 1001}, "note, with the place"),

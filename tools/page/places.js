@@ -1,6 +1,8 @@
 // Places: words of a note that tell one, and where the device is, in the system of the map.
 
-const PLACE = /(?:^|\s)@(?:([1-9]\d{0,15}):)?(-?\d{1,9}(?:\.\d{1,6})?)\/(-?\d{1,9}(?:\.\d{1,6})?)(?=\s|$)/;
+const SPACE = "[\\t-\\r \\x85\\xa0\\u1680\\u2000-\\u200a\\u2028\\u2029\\u202f\\u205f\\u3000]";  // Unicode's White_Space
+const NUMBER = "(-?\\d{1,9}(?:\\.\\d{1,6})?)";
+const PLACE = new RegExp(`(?:^|${SPACE})@(?:(-1|[1-9]\\d{0,15}):)?${NUMBER}/${NUMBER}(?=${SPACE}|$)`);
 const METRES = /^-?\d{1,9}([.,]\d{1,6})?$/;
 const DEVICE_PATIENCE = 20000;  // milliseconds until a device that doesn't tell where it is is given up
 

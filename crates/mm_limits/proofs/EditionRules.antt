@@ -176,9 +176,12 @@ to_content profile v d data_is named h = go h.1
           ),
           tt,
         )
-    go (inl (inr (inl (is, id, amount, zero_is, title, note, none)))) =
-        (RowPiece v.name v.k1 v.t1 v.t2 v.k2, same_row v three (same_some is) refl refl (same_some zero_is) refl refl (no_bytes none),
-          (named, id, title.1, note.1, amount), tt)
+    go (inl (inr (inl (is, id, amount, zero_is, title, note, none)))) = (
+      RowPiece v.name v.k1 v.t1 v.t2 v.k2,
+      same_row v three (same_some is) refl refl (same_some zero_is) refl refl (no_bytes none),
+      (named, id, title.1, note.1, amount),
+      tt,
+    )
     go (inl (inr (inr (inl (is, (id, a, b), content_type, c, bytes))))) = (
       Media v.name v.k1 v.t1 v.bytes,
       same_row v three (same_some is) refl (same_some a) (same_some b) refl (same_some c) refl,

@@ -10,6 +10,7 @@ with # are comments. A step that runs the program is the line '$ WORDS', the wor
     > TEXT               a line that it must print; '>' alone is an empty line
     >*                   it may print more
     = STATUS             its exit status, where that is not 0
+    ~ LEAST MOST         how many seconds it takes
     <- TEXT, >- TEXT     the same without the end of the line
     <!                   the input fails behind what is given, and has no end: it is a terminal that goes away
     <1..9 TEXT           a line for each number from 1 to 9, which is \# in it (>1..9 TEXT too, and >-1..9 TEXT without their ends)
@@ -17,7 +18,8 @@ with # are comments. A step that runs the program is the line '$ WORDS', the wor
                          'shut' ends what is sent. All connections are made and sent to before the first is read.
     @ drop, @ hold       one that is cut off as soon as '>' has come, with the rest unread; one of which nothing is read
 
-Words that end in '< FILE' or '> FILE' take the input from that file, or have the output go there. The other steps are
+Words that end in '< FILE', '> FILE' or '2> FILE' take the input from that file, or have the output or standard error go
+there. The other steps are
 
     ! steps FILE         the steps of a file that lies beside the transcript
     ! write FILE         makes a file of the lines '<' that follow
@@ -67,7 +69,7 @@ LIMITS = {"memory": resource.RLIMIT_AS, "files": resource.RLIMIT_FSIZE}
 # The connections that a transcript can have.
 CONNECTIONS = "@ open", "@ shut", "@ drop", "@ hold"
 # With which signs the lines behind a step begin.
-TAKEN = {"$": "<>=", "@": "<>", "write": "<", "sql": ">"}
+TAKEN = {"$": "<>=~", "@": "<>", "write": "<", "sql": ">"}
 
 
 class Failed(Exception):
@@ -102,6 +104,7 @@ class Step:
         self.verb, _, self.rest = line.removeprefix("! ").partition(" ")
         self.given, self.wanted, self.may_go_on, self.status = b"", b"", False, 0
         self.input_fails = False
+        self.seconds = (0, PATIENCE)
         self.connections = []
 
     def take(self, line):
@@ -115,6 +118,8 @@ class Step:
             self.input_fails = True
         elif re.fullmatch(r"= \d+", line):
             self.status = int(line[2:])
+        elif seconds := re.fullmatch(r"~ (\d+(?:\.\d+)?) (\d+(?:\.\d+)?)", line):
+            self.seconds = tuple(map(float, seconds.groups()))
         elif found and found[1] == "<":
             self.given += lines_of(not found[2], found[3], found[4] or "")
         elif found:
@@ -245,7 +250,7 @@ class Room:
     def run(self, step):
         """Runs the program."""
         self.before = {name: self.contents(name) for name in os.listdir(self.folder) if os.path.isfile(self.at(name))}
-        words, ends = shlex.split(step.rest), {"<": subprocess.PIPE, ">": subprocess.PIPE}
+        words, ends = shlex.split(step.rest), dict.fromkeys(("<", ">", "2>"), subprocess.PIPE)
         with contextlib.ExitStack() as held:
             while len(words) > 1 and words[-2] in ends:
                 flags = os.O_RDONLY if words[-2] == "<" else os.O_WRONLY | os.O_CREAT
@@ -256,10 +261,14 @@ class Room:
                 ends["<"] = left_terminal(step.given)
                 held.callback(os.close, ends["<"])
             how = {"executable": self.program, "cwd": self.folder, "env": {}, "preexec_fn": self.put_limits}
-            program = subprocess.Popen(["mmpkg", *map(bytes_of, words)], stdin=ends["<"], stdout=ends[">"], stderr=subprocess.PIPE, **how)
+            began = time.monotonic()
+            program = subprocess.Popen(["mmpkg", *map(bytes_of, words)], stdin=ends["<"], stdout=ends[">"], stderr=ends["2>"], **how)
             held.enter_context(program)
             held.callback(program.kill)
             self.compare(step, program)
+            took, (least, most) = time.monotonic() - began, step.seconds
+            if not least <= took <= most:
+                raise Failed(f"it took {took:.1f} seconds, wanted are {least:g} to {most:g}")
 
     def compare(self, step, program):
         """Fails where the program or a connection gives something else than is wanted."""
@@ -269,7 +278,7 @@ class Room:
         for _, connection in asked:
             if connection:
                 connection.close()
-        step.compare((told or b"") + errors, program.returncode)
+        step.compare((told or b"") + (errors or b""), program.returncode)
         if any(faults):
             raise Failed("\n  ".join(filter(None, faults)))
 

@@ -185,7 +185,7 @@ pub fn run_told(rt: &HostRuntime, words: &[&str], aids: Aids) -> io::Result<u8> 
     let (file, folder) = names_of(rt, words).unwrap_or(("", ""));
     let opening = Opening::new(rt, file);
     if aids.progress {
-        tell_opening(rt, file, opening.size())?;
+        let _told = tell_opening(rt, file, opening.size());
     }
     let run = Run::new(alloc, length_of_input(rt));
     let ear = Ear::new(rt, &run, aids.words, aids.progress.then_some(&opening));

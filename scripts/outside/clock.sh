@@ -8,7 +8,7 @@
 set -eu -o pipefail
 
 program=$(realpath "${1:-${MMPKG:-$(dirname "$0")/../../out/mmpkg}}")
-for needed in cc sqlite3; do
+for needed in cc sqlite3 curl; do
     command -v "$needed" >/dev/null || { echo "no $needed here"; exit 77; }
 done
 folder=$(mktemp -d)
@@ -90,4 +90,21 @@ run_without 'fault 96' 3 CLOCK_NANOSECONDS=0 -- kit none.mmpkg spring none
 run_without 'kit refused 0 12' 1 CLOCK_SECONDS=253402300800 CLOCK_NANOSECONDS=0 -- kit none.mmpkg Spring none
 run_without 'kit refused 0 12' 1 CLOCK_NANOSECONDS=0 -- kit none.mmpkg Spring none
 run_without 'not a package 94' 4 CLOCK_NANOSECONDS=0 -- check none.mmpkg
-echo "three moments, two outside the limits, a clock that can't be read, a moment that is given, and what is asked before the clock and behind it"
+
+# A desk whose clock is outside answers no request, and says so.
+rm -f a.mmpkg a.mmpkg-wal
+"$program" init a.mmpkg >/dev/null
+MMPKG_KEY=0123456789abcdef CLOCK_SECONDS=253402300800 CLOCK_NANOSECONDS=0 LD_PRELOAD="$folder/clock.so" \
+    "$program" desk a.mmpkg --port "$((20000 + RANDOM % 10000))" --count 1 >said &
+for _ in $(seq 50); do
+    address=$(sed -n 's/^desk //p' said)
+    [ -n "$address" ] && break
+    sleep 0.1
+done
+curl -s -o answer "${address}contents" || true
+wait "$!" && got=0 || got=$?
+if [ "$(tail -n 1 said)" != 'page fault 96' ] || [ -s answer ] || [ "$got" != 0 ]; then
+    echo "a desk whose clock is outside: '$(tail -n 1 said)', status $got; wanted 'page fault 96', status 0, and no answer"
+    exit 1
+fi
+echo "three moments, two outside the limits, a clock that can't be read, a moment that is given, what is asked before the clock and behind it, and a desk"

@@ -6,6 +6,8 @@
 With words only the checks whose names have one of them. Wanted values are those of docs/FORMATS.md, by the model in scripts/model.
 """
 import contextlib
+import datetime
+import json
 import os
 import pathlib
 import re
@@ -16,6 +18,7 @@ import socket
 import subprocess
 import sys
 import tempfile
+import threading
 import time
 
 from checks import PROGRAM, TOP, end, expect, mmpkg, run, run_checks
@@ -280,6 +283,43 @@ def check_a_body_byte_by_byte():
         it.end()
 
 
+def check_the_answers_end_at_once():
+    """The end of the answers comes with the last of them, also to a client that has more to say."""
+    with desk() as it:
+        it.post(OPENING)
+        body, began = b"row,spots,9,Gate,,0\n", time.monotonic()
+        expect(body_of(it.ask(it.head("POST", "/records", length=len(body)) + body, shut=False)), b"1 ok\n", "the answer")
+        assert time.monotonic() - began < FIRST_BYTE / 2, "the end came late"
+        it.end()
+
+
+def check_a_request_that_is_not_read():
+    """The answer to a head that is refused comes whole, though much of the request behind it is not read."""
+    with desk() as it, it.connect() as connection:
+        head = it.head("POST", "/records", length=MOST_BODY_BYTES + 1)
+        connection.sendall(head + b"x" * 300_000)
+        told = b""
+        while part := connection.recv(1 << 16):
+            told += part
+        expect(status_of(told), 413, "the answer")
+        it.end()
+
+
+def check_the_moment_of_a_list():
+    """The moment of a list's commands is the clock's when it comes."""
+    with desk() as it:
+        for name in ("one", "two"):
+            first = time.time_ns() // 1_000_000
+            it.post(f"table,{name},attributes,{name}\n".encode())
+            last = time.time_ns() // 1_000_000
+            tables = json.loads(body_of(it.ask(it.head("GET", "/contents"))))
+            (change,) = [table["last_change"] for table in tables if table["table"] == name]
+            at = round(datetime.datetime.fromisoformat(change).timestamp() * 1000)
+            assert first <= at <= last, f"{name} was changed at {at}, and is told to be of {first} to {last}"
+            time.sleep(1.1)
+        it.end()
+
+
 def check_200_requests_one_after_another():
     """200 lists and looks, each behind the other."""
     with desk() as it:
@@ -394,12 +434,22 @@ def check_the_key():
             found.add(address[1])
     expect(len(found), 2, "keys of two desks")
     with tempfile.TemporaryDirectory() as folder:
-        for key in ("short", "x" * 65, "0123456789abcde/", "0123456789abcde\u00e9"):
+        for key in ("short", "x" * 65, "0123456789abcde/", "0123456789abcde\u00e9", os.fsdecode(b"0123456789abcde\xff")):
             words = [PROGRAM, "desk", f"{folder}/none.mmpkg", "--port", str(free_port()), "--count", "1"]
             done = subprocess.run(words, capture_output=True, env=os.environ | {"MMPKG_KEY": key}, timeout=AT_ONCE, check=False)
-            expect((done.stdout, done.returncode), (b"refused 11\n", 1), f"a desk by the key {key}")
+            expect((done.stdout, done.returncode), (b"refused 11\n", 1), f"a desk by the key {key!r}")
         expect(os.listdir(folder), [], "files")
-    return 6
+    return 7
+
+
+def check_keys_by_chance():
+    """Each of the 32 digits of a key by chance is one."""
+    found = []
+    for _ in range(8):
+        with desk(key=None, table=None) as it:
+            found.append(it.address.rstrip("/\n").rpartition("/")[2])
+    alike = [place for place, digits in enumerate(zip(*found)) if len(set(digits)) == 1]
+    expect((len(found[0]), alike), (32, []), "places where eight keys are alike")
 
 
 def check_patience():
@@ -413,6 +463,43 @@ def check_patience():
                 waited = time.monotonic() - began
                 assert seconds - 0.5 < waited < seconds + 5, f"the next waited {waited:.1f} s"
             expect(it.line(), "page fault 96\n", "what is printed")
+        it.end()
+
+
+def drip(connection):
+    """Sends a byte every four seconds, until that fails."""
+    with contextlib.suppress(OSError):
+        for byte in b"GET /contents HTTP/1.1":
+            connection.sendall(bytes([byte]))
+            time.sleep(4)
+
+
+def check_a_client_that_drips():
+    """The twenty seconds are of the whole request, and not of each byte."""
+    with desk() as it, it.connect() as slow:
+        threading.Thread(target=drip, args=(slow,), daemon=True).start()
+        time.sleep(FIRST_BYTE / 2)
+        began = time.monotonic()
+        expect(status_of(it.ask(it.head("GET", "/contents"))), 200, "the next request")
+        waited = time.monotonic() - began
+        assert WHOLE_REQUEST - 2 < waited < WHOLE_REQUEST + 5, f"the next waited {waited:.1f} s"
+        expect(it.line(), "page fault 96\n", "what is printed")
+        it.end()
+
+
+def check_a_client_that_stops_reading():
+    """A client that reads nothing of its answer is let go behind twenty seconds, also where the system took a part of it."""
+    with desk() as it:
+        it.post(b"table,photos,media,Photos\nmedia,photos,1,image/png," + b"ab" * 4_194_304 + b"\n")
+        with socket.socket() as slow:
+            slow.setsockopt(socket.SOL_SOCKET, socket.SO_RCVBUF, 4096)
+            slow.connect(("127.0.0.1", it.port))
+            slow.sendall(it.head("GET", "/media/photos/1"))
+            began = time.monotonic()
+            expect(status_of(it.ask(it.head("GET", "/contents"))), 200, "the next request")
+            waited = time.monotonic() - began
+        assert WHOLE_REQUEST - 0.5 < waited < WHOLE_REQUEST + 5, f"the next waited {waited:.1f} s"
+        expect(it.line(), "page fault 97\n", "what is printed")
         it.end()
 
 

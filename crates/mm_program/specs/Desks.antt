@@ -65,8 +65,7 @@ address_text port key None = codes "desk http://127.0.0.1:" ++ decimal port ++ c
 abbrev pub IsDeskLine : List ℕ → Type 0
 IsDeskLine line = (fault : Fault) × ((line ≡ page_fault_text fault) ⊎ (line ≡ list_fault_text fault))
 
--- So many lines at most were printed whole, and the status is 0, or 3 where a command failed; or the last could not be,
--- and 3 is answered.
+-- So many lines at most were printed whole, and the status is 0 or 3; or the last could not be, and 3 is answered.
 abbrev pub IsAttended : ℕ → Written → Written → ℕ → Type 0
 IsAttended count old new status = (lines : List (List ℕ)) × All IsDeskLine lines × (length lines ≤ count)
     × ((Appends old.contents new.contents (concat lines) × (new.failed ≡ old.failed) × ((status ≡ 0) ⊎ (status ≡ 3)))
@@ -96,16 +95,21 @@ IsSeated port count key table old new status =
 abbrev pub WasSeated : ℕ → ℕ → Text → Option Text → Written → Written → Type 0
 WasSeated port count key table = EndsWell (IsSeated port count key table)
 
--- By some key the desk was there; or why it was not is told, also where the files could not be closed behind it. A key
--- of the environment that is none is refused, and so is a table's name that is none.
-abbrev pub TellsDesk : ℕ → ℕ → Option Text → Written → Written → ℕ → Type 0
-TellsDesk port count table old new result =
+-- By some key the desk was there; or why it was not is told, also where the files could not be closed behind it; or a key
+-- of the environment was refused, which tells no contract its bytes.
+abbrev pub TellsSeat : ℕ → ℕ → Option Text → Written → Written → ℕ → Type 0
+TellsSeat port count table old new result =
     IsTold old new (codes "refused 11\n") 1 result
-    ⊎ (NamesNone table × IsTold old new (codes "refused 12\n") 1 result)
     ⊎ ((key : Text) × IsKey key × IsSeated port count key table old new result)
     ⊎ ((why : Stop) × (between : Written)
     × (PrintsNothing old between ⊎ ((key : Text) × IsKey key × WasSeated port count key table old between))
     × IsTold between new (stop_text why) (stop_status why) result)
+
+-- the name of a page's table that is none is refused, and no other
+abbrev pub TellsDesk : ℕ → ℕ → Option Text → Written → Written → ℕ → Type 0
+TellsDesk port count table old new result =
+    (NamesNone table × IsTold old new (codes "refused 12\n") 1 result)
+    ⊎ (¬ (NamesNone table) × TellsSeat port count table old new result)
 
 -- what the work of a desk comes to
 abbrev pub IsDeskDone : ℕ → ℕ → Text → Option Text → Written → Written → Result ℕ Stop → Type 0

@@ -37,8 +37,8 @@ import_status (Err why) = stop_status why
 abbrev pub TellsDecline : Written → Written → ℕ → Type 0
 TellsDecline old new result = result ≡ 4 → (why : Stop) × IsTold old new (stop_text why) 4 result
 
--- Want of memory is a fault. Help and usage are printed as `clap` has them, with their status, or with 3 where the
--- writer failed.
+-- Want of memory is a fault. Help and usage have their status, or 3 where they could not be printed; what they say is
+-- `clap`'s.
 abbrev pub TellsStatus : Option ℕ → Written → Written → ℕ → Type 0
 TellsStatus None old new result = IsTold old new (stop_text (stops.Fault faults.memory)) 3 result
 TellsStatus (Some status) old new result = (result ≡ status) ⊎ (result ≡ 3)

@@ -112,7 +112,7 @@ module _ {D S : Type 0} (g : Ghosts D) (image : Image) (path : Text) (old new : 
   TellsService = TellsWork (λ status. status) (λ found between done. TellsServed found done)
       (λ found after between done. LeavesSame found after) closes_run
 
-  -- `desk` shows the package that was found and runs lists on it; a key or a table's name that is none opens no file
+  -- `desk` shows the package that was found and runs lists on it; where a key or a table's name was refused no file is opened
   abbrev pub TellsSitting : Type 0
   TellsSitting =
       ((IsTold old new (codes "refused 11\n") 1 result ⊎ IsTold old new (codes "refused 12\n") 1 result)

@@ -1,6 +1,6 @@
 //! The desk over sockets: one session that shows the package and takes records.
 
-ghost use Rattle.std.specs.Prelude.{◌≡◌, ◌≤◌, ◌⊎◌, List, false, IfErr, IfOk, string_bytes};
+ghost use Rattle.std.specs.Prelude.{◌≡◌, ◌≤◌, ◌⊎◌, List, false, true, IfErr, IfOk, string_bytes};
 ghost use Rattle.sqlite.specs.Held.{state};
 ghost use Rattle.sqlite.specs.WalFiles.{image_at};
 ghost use Rattle.mm_definitions.specs.Streams.{written};
@@ -10,7 +10,7 @@ ghost use Rattle.mm_core.specs.Viewers.{LeavesPackage};
 ghost use Rattle.mm_desk.specs.Sittings.{Sat, Visit};
 ghost use Rattle.mm_files.specs.Worked.{IsUnprinted};
 ghost use Rattle.mm_program.specs.Desks.{IsAttended, IsDeskDone, IsKey, IsSeated, LeavesDesk, NamesNone, Sits};
-ghost use Rattle.mm_program.specs.Desks.{TellsDesk, TellsSat, WasSeated, address_text, table_of};
+ghost use Rattle.mm_program.specs.Desks.{TellsDesk, TellsSat, TellsSeat, WasSeated, address_text, table_of};
 ghost use Rattle.mm_program.specs.Files.{OnFile, StopsOld};
 ghost use Rattle.mm_program.specs.Served.{PrintsNothing};
 ghost use Rattle.mm_program.specs.Stops.{StopsAny};
@@ -22,6 +22,7 @@ use crate::clock::{Now, moment_or_now};
 use crate::files::{Worked, ends_well, on_old};
 use crate::keys::key_of;
 use crate::sittings::attend;
+use crate::sockets::{Reading, next_stream, read_off};
 use mm_core::Session;
 use mm_definitions::answers::{Fault, PageFault};
 use mm_definitions::names::{Name, is_name};
@@ -35,20 +36,11 @@ use sqlite_disk::Disk;
 use std::alloc::Global;
 use std::io;
 use std::io::{Read, Write};
-use std::net::{Ipv4Addr, Shutdown, TcpListener, TcpStream};
+use std::net::{Ipv4Addr, TcpListener, TcpStream};
 use std::time::{Duration, Instant};
 
 /// How many seconds a request may take to come whole, and each write of a response.
 const PATIENCE: u64 = 20;
-
-/// How many seconds its first byte may be waited for: a browser opens a connection to spare, and the next one waits
-/// behind it.
-const FIRST_PATIENCE: u64 = 1;
-
-/// How many times the rest of a request is read off behind a response, and how many bytes each time.
-const LAST_READS: usize = 16;
-
-const LAST_BYTES: usize = 65_536;
 
 /// A stream whose reads end together: what comes later than its patience is an error.
 #[derive(Drop)]
@@ -74,30 +66,6 @@ impl<'a> Read for Timed<'a> {
     }
 }
 
-/// The next connection, once its first byte is there, or its end.
-fn next_stream(listener: &TcpListener) -> io::Result<TcpStream> {
-    let (stream, _address) = listener.accept()?;
-    stream.set_read_timeout(Some(Duration::from_secs(FIRST_PATIENCE)))?;
-    let _first = stream.peek(&mut [0])?;
-    stream.set_write_timeout(Some(Duration::from_secs(PATIENCE)))?;
-    Ok(stream)
-}
-
-/// Ends the response, and reads off what is left of the request, up to 1 MiB: with bytes unread the system would reset
-/// the connection, and the client could lose the response.
-fn read_off(stream: &TcpStream) -> io::Result<()> {
-    stream.shutdown(Shutdown::Write)?;
-    stream.set_read_timeout(Some(Duration::from_secs(FIRST_PATIENCE)))?;
-    let mut rest = [0u8; LAST_BYTES];
-    let mut reader = stream;
-    for _ in 0..LAST_READS {
-        if reader.read(&mut rest)? == 0 {
-            break;
-        }
-    }
-    Ok(())
-}
-
 /// The connections of a port, each with one request.
 #[derive(Drop)]
 struct Doors<'a> {
@@ -110,7 +78,7 @@ impl<'a, S: Alter> Comes<Session<S>> for Doors<'a> {
     /// Answers the next connection. 96 where there is none to be had, where nothing came on it, and where the clock
     /// tells no moment.
     fn answer_next(&mut self, alloc: Global, session: &mut Session<S>) -> Result<Done, PageFault> {
-        let Ok(stream) = next_stream(self.listener) else {
+        let Ok(stream) = next_stream(self.listener, PATIENCE) else {
             return Err(PageFault(Fault::INPUT));
         };
         let Ok(start) = Instant::now(self.rt) else {
@@ -124,7 +92,11 @@ impl<'a, S: Alter> Comes<Session<S>> for Doors<'a> {
             stream: &stream,
             start,
         });
-        let mut writer = Io::new(&stream);
+        let mut writer = Io::new(Reading {
+            rt: self.rt,
+            stream: &stream,
+            patience: PATIENCE,
+        });
         let done = desk_one(alloc, session, self.gate, &mut reader, &mut writer, at);
         // The response is written, or has failed: what becomes of the connection behind it is no fault.
         let _ended = read_off(&stream);
@@ -286,7 +258,8 @@ fn desk_file<'a, S: Start, W: Write>(
 
 /// Whether no table is named, or one by a name.
 fn is_named(page: Option<&str>) -> bool
-    ensures { result ≡ false → NamesNone (table_of page.entry) }
+    ensures none { result ≡ false → NamesNone (table_of page.entry) }
+    ensures named { result ≡ true → ¬ (NamesNone (table_of page.entry)) }
 {
     match page {
         Some(table) => is_name(table),
@@ -302,7 +275,7 @@ fn desk_keyed<'a, S: Start, W: Write>(
     output: &mut Io<W>,
 ) -> (u8, Left<'a, FileFrom<S>, S>)
     ensures told { IsKey work.old.key.now
-        → TellsDesk work.old.port work.old.count (table_of work.old.page)
+        → TellsSeat work.old.port work.old.count (table_of work.old.page)
         (written W.contents output.old) (written W.contents output.new) result.0 }
     ensures sitting { TellsSitting ⟦<FileFrom<S> as Disk>⟧ (image_at S.Start) path.now
         (written W.contents output.old) (written W.contents output.new) result.0 result.1 }

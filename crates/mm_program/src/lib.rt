@@ -11,6 +11,7 @@
 //! - `sittings`: requests that a desk answers, one after another.
 //! - `keys`: the key in a desk's address.
 //! - `desks`: the desk over sockets.
+//! - `sockets`: its connections and those of the page, and how long a client is waited for.
 //! - `explaining`: what a number says.
 //! - `clock`: the moment of a run that names none.
 //! - `laws`: from one run of the program to the next.
@@ -29,6 +30,7 @@ mod reporting;
 mod rows;
 mod serving;
 mod sittings;
+mod sockets;
 mod subcommands;
 
 pub use connections::{Serves, serve_on};

@@ -18,6 +18,7 @@ ghost use Rattle.mm_program.specs.Worked.{IsPageServed, closes_run};
 
 use crate::connections::{Serves, serve_on};
 use crate::files::{Worked, ends_well, on_old};
+use crate::sockets::{Reading, next_stream, read_off};
 use mm_core::Session;
 use mm_definitions::answers::{Fault, PageFault};
 use mm_definitions::streams::Io;
@@ -27,60 +28,33 @@ use mm_work::{FAULT, Stop, adopt_package, tell_serving, tell_stop};
 use sqlite::{Alter, Connection, FileFrom, Start};
 use sqlite_disk::Disk;
 use std::alloc::Global;
-use std::io;
-use std::io::{Read, Write};
-use std::net::{Ipv4Addr, Shutdown, TcpListener, TcpStream};
-use std::time::Duration;
+use std::io::Write;
+use std::net::{Ipv4Addr, TcpListener};
 
 /// How many seconds a read or write of a connection may wait, so that a client that stops can't stop the page.
 const PATIENCE: u64 = 10;
 
-/// How many seconds the first byte of a request may be waited for: a browser opens a connection to spare, and the next
-/// one waits behind it.
-const FIRST_PATIENCE: u64 = 1;
-
-/// How many times the rest of a request is read off behind a response, and how many bytes each time.
-const LAST_READS: usize = 16;
-
-const LAST_BYTES: usize = 65_536;
-
-/// The next connection, once its first byte is there, or its end. Its later reads and its writes wait for ten seconds
-/// at most.
-fn next_stream(listener: &TcpListener) -> io::Result<TcpStream> {
-    let (stream, _address) = listener.accept()?;
-    stream.set_read_timeout(Some(Duration::from_secs(FIRST_PATIENCE)))?;
-    let _first = stream.peek(&mut [0])?;
-    let patience = Some(Duration::from_secs(PATIENCE));
-    stream.set_read_timeout(patience)?;
-    stream.set_write_timeout(patience)?;
-    Ok(stream)
+/// The connections of a port, one after another.
+#[derive(Drop)]
+struct Port<'a> {
+    rt: &'a HostRuntime,
+    listener: &'a TcpListener,
 }
 
-/// Ends the response, and reads off what is left of the request, up to 1 MiB: with bytes unread the system would reset
-/// the connection, and the client could lose the response.
-fn read_off(stream: &TcpStream) -> io::Result<()> {
-    stream.shutdown(Shutdown::Write)?;
-    stream.set_read_timeout(Some(Duration::from_secs(FIRST_PATIENCE)))?;
-    let mut rest = [0u8; LAST_BYTES];
-    let mut reader = stream;
-    for _ in 0..LAST_READS {
-        if reader.read(&mut rest)? == 0 {
-            break;
-        }
-    }
-    Ok(())
-}
-
-impl<S: Alter> Serves<S> for TcpListener {
-    ghost outcomes = { λ listener. None };
+impl<'a, S: Alter> Serves<S> for Port<'a> {
+    ghost outcomes = { λ port. None };
 
     /// Serves the next connection. 96 where there is none to be had, or nothing came on it.
     fn serve_next(&mut self, alloc: Global, session: &mut Session<S>) -> Result<(), PageFault> {
-        let Ok(stream) = next_stream(self) else {
+        let Ok(stream) = next_stream(self.listener, PATIENCE) else {
             return Err(PageFault(Fault::INPUT));
         };
         let mut reader = Io::new(&stream);
-        let mut writer = Io::new(&stream);
+        let mut writer = Io::new(Reading {
+            rt: self.rt,
+            stream: &stream,
+            patience: PATIENCE,
+        });
         let served = serve_one(alloc, session, &mut reader, &mut writer);
         // The response is written, or has failed: what becomes of the connection behind it is no fault.
         let _ended = read_off(&stream);
@@ -106,13 +80,17 @@ fn serve_port<S: Alter, W: Write>(
     ensures kept { LeavesPackage
         (state S.Store (connection session.old)) (state S.Store (connection session.new)) }
 {
-    let Ok(mut listener) = TcpListener::bind(rt, (Ipv4Addr::LOCALHOST, port)) else {
+    let Ok(listener) = TcpListener::bind(rt, (Ipv4Addr::LOCALHOST, port)) else {
         return Err(Stop::Fault(Fault::INPUT));
     };
     if !tell_serving(output, port) {
         return Ok(FAULT);
     }
-    Ok(serve_on(rt.alloc(), session, &mut listener, count, output))
+    let mut connections = Port {
+        rt,
+        listener: &listener,
+    };
+    Ok(serve_on(rt.alloc(), session, &mut connections, count, output))
 }
 
 /// The page of a package, served on a port to so many connections.

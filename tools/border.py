@@ -192,7 +192,7 @@ def journal_of(file):
 
 def copy_with_journal(file, copy):
     """Copies a package and its journal, as far as they are there."""
-    for path, suffix in ((file, ""), (journal_of(file), "-wal")):
+    for path, suffix in ((pathlib.Path(file), ""), (journal_of(file), "-wal")):
         if path.exists():
             shutil.copyfile(path, f"{copy}{suffix}")
 

@@ -455,16 +455,21 @@ def check_keys_by_chance():
     expect((len(found[0]), alike), (32, []), "places where eight keys are alike")
 
 
+def expect_wait(it, seconds):
+    """The next request is answered once the one before it was waited for so long."""
+    began = time.monotonic()
+    expect(status_of(it.ask(it.head("GET", "/contents"))), 200, "the next request")
+    waited = time.monotonic() - began
+    assert seconds - 0.5 < waited < seconds + 5, f"the next waited {waited:.1f} s"
+
+
 def check_patience():
     """Who sends nothing is let go behind a second, who sends slowly behind twenty; others are answered then."""
     with desk() as it:
         for sent, seconds in ((b"", FIRST_BYTE), (b"GET / HT", WHOLE_REQUEST)):
             with it.connect() as slow:
                 slow.sendall(sent)
-                began = time.monotonic()
-                expect(status_of(it.ask(it.head("GET", "/contents"))), 200, "the next request")
-                waited = time.monotonic() - began
-                assert seconds - 0.5 < waited < seconds + 5, f"the next waited {waited:.1f} s"
+                expect_wait(it, seconds)
             expect(it.line(), "page fault 96\n", "what is printed")
         it.end()
 
@@ -482,10 +487,7 @@ def check_a_client_that_drips():
     with desk() as it, it.connect() as slow:
         threading.Thread(target=drip, args=(slow,), daemon=True).start()
         time.sleep(FIRST_BYTE / 2)
-        began = time.monotonic()
-        expect(status_of(it.ask(it.head("GET", "/contents"))), 200, "the next request")
-        waited = time.monotonic() - began
-        assert WHOLE_REQUEST - 2 < waited < WHOLE_REQUEST + 5, f"the next waited {waited:.1f} s"
+        expect_wait(it, WHOLE_REQUEST - FIRST_BYTE)
         expect(it.line(), "page fault 96\n", "what is printed")
         it.end()
 
@@ -498,10 +500,7 @@ def check_a_client_that_stops_reading():
             slow.setsockopt(socket.SOL_SOCKET, socket.SO_RCVBUF, 4096)
             slow.connect(("127.0.0.1", it.port))
             slow.sendall(it.head("GET", "/media/photos/1"))
-            began = time.monotonic()
-            expect(status_of(it.ask(it.head("GET", "/contents"))), 200, "the next request")
-            waited = time.monotonic() - began
-        assert WHOLE_REQUEST - 0.5 < waited < WHOLE_REQUEST + 5, f"the next waited {waited:.1f} s"
+            expect_wait(it, WHOLE_REQUEST)
         expect(it.line(), "page fault 97\n", "what is printed")
         it.end()
 

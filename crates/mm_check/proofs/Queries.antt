@@ -2,7 +2,7 @@
 use Rattle.std.proofs.Common.{ℕ, List, [], ◌∷◌, codes, refl}
 use Rattle.sql_forms.specs.UnaryOp.TheVariants.{Not}
 use Rattle.sqlite.specs.Term.{Term, col, op1}
-use Rattle.sql_forms.specs.Query.{Join, inner, counted, end}
+use Rattle.sql_forms.specs.Query.{Join, inner, left, counted, end}
 use Rattle.sqlite.specs.Listing.{understood}
 use Rattle.sql_forms.specs.Compute.{everything}
 use Rattle.mm_walk.specs.RowTests.{IsQuery}
@@ -16,7 +16,7 @@ abbrev pub digested_text : List ℕ
 digested_text = codes "SELECT b.digest, b.data FROM mm_blobs AS b"
 
 abbrev pub apart_text : List ℕ
-apart_text = codes "SELECT a.id FROM mm_blobs AS a JOIN mm_blobs AS b ON b.digest = a.digest WHERE a.id < b.id AND b.data = a.data"
+apart_text = codes "SELECT a.id FROM mm_blobs AS a JOIN mm_blobs AS b ON b.digest = a.digest LEFT JOIN mm_blobs AS c ON c.id = a.id LEFT JOIN mm_blobs AS d ON d.id = b.id WHERE a.id < b.id AND d.data = c.data"
 
 pub digested : IsQuery schema digested_text (inner 27 end) [] (col 1 2 ∷ col 1 3 ∷ []) [] (codes "digest" ∷ codes "data" ∷ [])
 unfolding understood everything
@@ -27,9 +27,13 @@ unfolding everything
 quiet_digested = λ schema base. refl
 
 abbrev pub equal_terms : List Term
-equal_terms = equals 2 2 1 2 ∷ below 1 0 2 0 ∷ equals 2 3 1 3 ∷ []
+equal_terms = equals 2 2 1 2 ∷ below 1 0 2 0 ∷ equals 4 3 3 3 ∷ []
 
-pub apart : IsQuery schema apart_text (inner 27 (inner 27 end)) equal_terms (col 1 0 ∷ []) [] (codes "id" ∷ [])
+-- two blobs, and each once more for its bytes
+abbrev pub two_twice : Join
+two_twice = inner 27 (inner 27 (left 27 (equals 3 0 1 0 ∷ []) (left 27 (equals 4 0 2 0 ∷ []) end)))
+
+pub apart : IsQuery schema apart_text two_twice equal_terms (col 1 0 ∷ []) [] (codes "id" ∷ [])
 unfolding understood everything
 apart = record { compiled = refl; plain = (refl, refl); unlisted = refl }
 

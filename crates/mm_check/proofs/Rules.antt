@@ -1,6 +1,6 @@
 -- What the queries of the form show.
 use Rattle.std.proofs.Common.{◌≡◌, ◌↔◌, ◌⊎◌, inl, inr, ℕ, suc, ℤ, pos, Bool, true, false, not, ◌&&◌, ◌||◌}
-use Rattle.std.proofs.Common.{List, [], ◌∷◌, length, filter, if◌then◌else◌, Some, refl, sym, ap, subst, ◌∙◌, arith}
+use Rattle.std.proofs.Common.{List, [], ◌∷◌, length, filter, if◌then◌else◌, Option, Some, None, refl, sym, ap, subst, ◌∙◌, arith}
 use Rattle.std.specs.Prelude.{◌<ℤ◌, min}
 use Rattle.std.specs.declared.cmp.Ordering.{Ordering}
 use Rattle.std.specs.declared.cmp.Ordering.TheVariants.{Less, Equal, Greater}
@@ -13,11 +13,11 @@ use Rattle.std.proofs.lemmas.Int.{ints}
 use Rattle.sqlite.specs.Ops.{binary, is_true}
 use Rattle.sql_forms.specs.Ops.{unary}
 use Rattle.sqlite.specs.declared.types.Value.{Value}
-use Rattle.sqlite.specs.declared.types.Value.TheVariants.{Int, Text as Words, Blob as Bytes}
+use Rattle.sqlite.specs.declared.types.Value.TheVariants.{Null, Int, Text as Words, Blob as Bytes}
 use Rattle.sql_forms.specs.Collation.TheVariants.{Binary}
 use Rattle.sql_forms.specs.BinaryOp.TheVariants.{Compare}
 use Rattle.sql_forms.specs.CompareOp.TheVariants.{Lt}
-use Rattle.sqlite.specs.Order.{Row}
+use Rattle.sqlite.specs.Order.{Row, column}
 use Rattle.sqlite.specs.Term.{Env, col, holds}
 use Rattle.sqlite.specs.Query.{inner, end, matches}
 use Rattle.sqlite.specs.Program.{overlay}
@@ -28,15 +28,18 @@ use Rattle.sql_forms.specs.Rules.{equal}
 use Rattle.sql_forms.proofs.Keys.{columns_are}
 use Rattle.sql_forms.proofs.Lists.{flat_counted}
 use Rattle.mm_definitions.proofs.KeyLaws.{texts}
-use Rattle.mm_store.specs.Rows.{tile_row, medium_row, staged_row}
-use Rattle.mm_store.specs.Blobs.{Blob, blob_row, digest_of}
+use Rattle.sql_forms.specs.Maps.{Holds}
+use Rattle.mm_store.specs.Rows.{whole, tile_row, medium_row, staged_row}
+use Rattle.mm_store.specs.Blobs.{Blob, Shelf, blob_row, digest_of}
 use Rattle.mm_store.specs.Kept.{Kept, IsNamed, tile_id, medium_id, piece_id}
 use Rattle.mm_blobs.specs.Views.{TellsWhether}
 use Rattle.mm_blobs.proofs.Keeping.{equal_bytes, at_id, hits_id, only_id, told_names}
-use Rattle.mm_walk.proofs.Joined.{as_whole, covered_whole, each_row}
-use Rattle.mm_walk.proofs.Keys.{tie, texts_are, less_is, on_true, same}
+use Rattle.mm_walk.specs.RowTests.{OnTrue}
+use Rattle.mm_walk.proofs.Joined.{as_whole, covered_whole, each_row, joined}
+use Rattle.mm_walk.proofs.Keys.{tie, texts_are, number_is, less_is, on_true, same}
+use Rattle.mm_walk.proofs.Named.{null_equals, equals_null, JoinsBlob, also}
 use Rattle.mm_check.specs.Form.{KeepsAs, IsDigestedRow, AreDigested, AreApart, AreNamed, AreInForm}
-use Rattle.mm_check.proofs.Queries.{equal_terms, no_names, by_tiles, by_media, by_pieces}
+use Rattle.mm_check.proofs.Queries.{two_twice, equal_terms, no_names, by_tiles, by_media, by_pieces}
 use Rattle.mm_check.proofs.Checks.{SaysForm}
 
 -- ---- each alone
@@ -49,25 +52,72 @@ digested db kept h = each_row as_whole blob_row (db.trees 27) kept.shelf (covere
 bytes_are : (a b : List ℕ) → (equal Binary (Bytes a) (Bytes b) ≡ true) ↔ (a ≡ b)
 bytes_are a b = let t = tie texts a b in (λ e. t.0 (sym (equal_bytes a b) ∙ e), λ e. equal_bytes a b ∙ t.1 e)
 
-equal_is : (i j : ℤ) (b c : Blob)
-    → ((equal Binary (Words c.digest) (Words b.digest) && (is_true (binary (Compare Lt Binary) (Int i) (Int j)) && (equal Binary (Bytes c.bytes) (Bytes b.bytes) && true))) ≡ true)
-    ↔ ((c.digest ≡ b.digest) × (i <ℤ j) × (c.bytes ≡ b.bytes))
-equal_is i j b c =
+-- the bytes that a LEFT JOIN shows of a blob, or NULL
+abbrev shown : Option Blob → Value
+shown None = Null
+shown (Some b) = Bytes b.bytes
+
+-- both joins find a blob, and the two have the same bytes
+abbrev AreAlike : Option Blob → Option Blob → Type 0
+AreAlike None p = ⊥
+AreAlike (Some v) None = ⊥
+AreAlike (Some v) (Some w) = w.bytes ≡ v.bytes
+
+alike_is : (o p : Option Blob) → (equal Binary (shown p) (shown o) ≡ true) ↔ AreAlike o p
+alike_is None p = (λ e. absurd (let f : false ≡ true = sym (equals_null (shown p)) ∙ e in cc), λ h. absurd h)
+alike_is (Some v) None = (λ e. absurd (let f : false ≡ true = sym (null_equals (shown (Some v))) ∙ e in cc), λ h. absurd h)
+alike_is (Some v) (Some w) = bytes_are w.bytes v.bytes
+
+equal_is : (i j : ℤ) (b c : Blob) (o p : Option Blob)
+    → ((equal Binary (Words c.digest) (Words b.digest) && (is_true (binary (Compare Lt Binary) (Int i) (Int j)) && (equal Binary (shown p) (shown o) && true))) ≡ true)
+    ↔ ((c.digest ≡ b.digest) × (i <ℤ j) × AreAlike o p)
+equal_is i j b c o p =
     let d = texts_are c.digest b.digest in
     let l = less_is i j in
-    let s = bytes_are c.bytes b.bytes in (
+    let s = alike_is o p in (
       λ e.
-          let p = and_parts (equal Binary (Words c.digest) (Words b.digest)) _ e in
-          let q = and_parts (is_true (binary (Compare Lt Binary) (Int i) (Int j))) _ p.1 in
-          (d.0 p.0, l.0 q.0, s.0 (and_parts (equal Binary (Bytes c.bytes) (Bytes b.bytes)) true q.1).0),
+          let f = and_parts (equal Binary (Words c.digest) (Words b.digest)) _ e in
+          let q = and_parts (is_true (binary (Compare Lt Binary) (Int i) (Int j))) _ f.1 in
+          (d.0 f.0, l.0 q.0, s.0 (and_parts (equal Binary (shown p) (shown o)) true q.1).0),
       λ e. and_from _ _ (d.1 e.0) (and_from _ _ (l.1 e.1) (and_from _ _ (s.1 e.2) refl)),
     )
 
-pub apart : SaysForm [] (inner 27 (inner 27 end)) equal_terms (col 1 0 ∷ []) (λ _. ⊥) AreApart
+module _ (rows : List Row) (shelf : Shelf) (h : Holds whole blob_row rows shelf) (i j : ℤ) (b c : Blob) where
+  -- no two are found that have one digest and the same bytes
+  abbrev IsApart : Option Blob → Option Blob → Type 0
+  IsApart o p = (c.digest ≡ b.digest) × (i <ℤ j) × AreAlike o p → ⊥
+
+  -- nothing is shown of the two, with these rows of the joins
+  abbrev Hides : Row → Row → Type 0
+  Hides r s = OnTrue (list_all (holds ([] ∷ blob_row i b ∷ blob_row j c ∷ r ∷ s ∷ [])) equal_terms) ⊥
+
+  second : (o : Option Blob) (r : Row) → ((p : Option Blob) (s : Row) → column s 3 ≡ shown p → Hides r s ↔ IsApart o p)
+      → ((s : Row) → JoinsBlob rows (Int j) s → Hides r s) ↔ IsApart o (get shelf j)
+  second o r each =
+      joined as_whole blob_row rows shelf (covered_whole h) (λ s. equal Binary (column s 0) (Int j) && true) j (λ l w x. number_is l j)
+      (Hides r) (IsApart o) (each None [] refl) (λ w x. each (Some w) (blob_row j w) refl)
+
+  of_row : (o p : Option Blob) (r s : Row) → column r 3 ≡ shown o → column s 3 ≡ shown p → Hides r s ↔ IsApart o p
+  of_row o p r s shows_o shows_p =
+      on_true _ ((c.digest ≡ b.digest) × (i <ℤ j) × AreAlike o p) ⊥
+      (subst (λ v. ((equal Binary (Words c.digest) (Words b.digest) && (is_true (binary (Compare Lt Binary) (Int i) (Int j)) && (equal Binary (column s 3) v && true))) ≡ true) ↔ ((c.digest ≡ b.digest) × (i <ℤ j) × AreAlike o p)) (sym shows_o)
+      (subst (λ v. ((equal Binary (Words c.digest) (Words b.digest) && (is_true (binary (Compare Lt Binary) (Int i) (Int j)) && (equal Binary v (shown o) && true))) ≡ true) ↔ ((c.digest ≡ b.digest) × (i <ℤ j) × AreAlike o p)) (sym shows_p)
+      (equal_is i j b c o p)))
+
+  of_pair : ((r : Row) → JoinsBlob rows (Int i) r → (s : Row) → JoinsBlob rows (Int j) s → Hides r s) ↔ IsApart (get shelf i) (get shelf j)
+  of_pair =
+      joined as_whole blob_row rows shelf (covered_whole h) (λ r. equal Binary (column r 0) (Int i) && true) i (λ l v x. number_is l i)
+      (λ r. (s : Row) → JoinsBlob rows (Int j) s → Hides r s) (λ o. IsApart o (get shelf j))
+      (second None [] (λ p s is. of_row None p [] s refl is)) (λ v x. second (Some v) (blob_row i v) (λ p s is. of_row (Some v) p (blob_row i v) s refl is))
+
+pub apart : SaysForm [] two_twice equal_terms (col 1 0 ∷ []) (λ _. ⊥) AreApart
 apart db kept h =
     let here = covered_whole h.blobs in
-    each_row as_whole blob_row (db.trees 27) kept.shelf here _ _
-    (λ i b x. each_row as_whole blob_row (db.trees 27) kept.shelf here _ _ (λ j c y. on_true _ ((c.digest ≡ b.digest) × (i <ℤ j) × (c.bytes ≡ b.bytes)) ⊥ (equal_is i j b c)))
+    also (each_row as_whole blob_row (db.trees 27) kept.shelf here _ _
+    (λ i b x. each_row as_whole blob_row (db.trees 27) kept.shelf here _ _ (λ j c y. of_pair (db.trees 27) kept.shelf h.blobs i j b c))) (
+      λ all i b at_i j c at_j. subst (λ o. IsApart (db.trees 27) kept.shelf h.blobs i j b c o (Some c)) at_i (subst (IsApart (db.trees 27) kept.shelf h.blobs i j b c (get kept.shelf i)) at_j (all i b at_i j c at_j)),
+      λ all i b at_i j c at_j. subst (λ o. IsApart (db.trees 27) kept.shelf h.blobs i j b c o (get kept.shelf j)) (sym at_i) (subst (IsApart (db.trees 27) kept.shelf h.blobs i j b c (Some b)) (sym at_j) (all i b at_i j c at_j)),
+    )
 
 -- ---- those that nothing names
 

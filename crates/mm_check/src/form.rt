@@ -57,13 +57,14 @@ pub fn blobs_are_digested<S: Alter>(conn: &mut Connection<S>) -> Result<bool, Fa
     )
 }
 
-/// Of the form of the blobs, that no two have one digest and hold the same bytes.
+/// Of the form of the blobs, that no two have one digest and hold the same bytes. Pairs of one digest come from the index
+/// on digests alone, and the bytes of those pairs alone are read.
 pub fn blobs_are_apart<S: Alter>(conn: &mut Connection<S>) -> Result<bool, Fault>
     ensures { IsFormCheck (state S.Store conn.old) (state S.Store conn.new) AreApart result }
 {
     each_passes(
         conn,
-        "SELECT a.id FROM mm_blobs AS a JOIN mm_blobs AS b ON b.digest = a.digest WHERE a.id < b.id AND b.data = a.data",
+        "SELECT a.id FROM mm_blobs AS a JOIN mm_blobs AS b ON b.digest = a.digest LEFT JOIN mm_blobs AS c ON c.id = a.id LEFT JOIN mm_blobs AS d ON d.id = b.id WHERE a.id < b.id AND d.data = c.data",
         &[],
         &Never,
     )

@@ -4,3 +4,4 @@ pub mod Touching
 pub mod Freeing
 pub mod Joined
 pub mod Lending
+pub mod Stamped

@@ -12,7 +12,7 @@ impl<S: Alter> Session<S> {
     ghost use Rattle.mm_definitions.specs.Bounds.{current};
     ghost use Rattle.mm_definitions.specs.Streams.{written};
     ghost use Rattle.mm_reads.specs.Listing.{listing};
-    ghost use Rattle.mm_reads.specs.Writing.{IsListed};
+    ghost use Rattle.mm_reads.specs.Writing.{IsListed, IsOut};
     ghost use Rattle.mm_core.specs.Parts.{must_reopen};
     ghost use Rattle.mm_core.specs.Reads.{Reads};
 
@@ -27,6 +27,7 @@ impl<S: Alter> Session<S> {
             (λ old new. IsListed current listing old new (written W.contents writer.old)
             (written W.contents writer.new) result) }
         ensures unwritten { must_reopen self.old ≡ true → writer.new ≡ writer.old }
+        ensures out { IsOut writer.old → IsOut writer.new }
     {
         self.ready()?;
         list(&mut self.conn, writer)

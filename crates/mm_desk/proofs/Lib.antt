@@ -3,3 +3,4 @@ pub mod Leaving
 pub mod Sitting
 pub mod RowPaths
 pub mod Showing
+pub mod Told

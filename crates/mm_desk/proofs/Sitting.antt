@@ -1,6 +1,6 @@
 -- A sitting is one run of its lists.
-use Rattle.std.proofs.Common.{◌≡◌, inl, inr, ℕ, ◌+◌, List, [], ◌∷◌, ◌++◌, true, false, Result, Ok, Err, refl, sym, ap, subst, ◌∙◌, length, take, take_all, arith, suc}
-use Rattle.std.specs.Prelude.{Some}
+use Rattle.std.proofs.Common.{◌≡◌, inl, inr, ℕ, ◌+◌, List, [], ◌∷◌, ◌++◌, true, false, Result, Ok, Err, refl, sym, ap, subst, ◌∙◌, length, take, take_all, length-append, arith, suc}
+use Rattle.std.specs.Prelude.{◌≤◌, Some}
 use Rattle.mm_definitions.specs.Package.{Package}
 use Rattle.mm_definitions.specs.Runs.{Call, run, accepted}
 use Rattle.mm_definitions.specs.declared.answers.RunFault.{RunFault}
@@ -10,12 +10,12 @@ use Rattle.mm_run.specs.Answers.{calls_of}
 use Rattle.mm_run.specs.Applied.{IsSound}
 use Rattle.mm_run.specs.Readings.{Reading, AreReadAs}
 use Rattle.mm_run.specs.Promised.{KeepsRun}
-use Rattle.mm_run.specs.Runs.{AreFirstParts}
+use Rattle.mm_run.specs.Runs.{AreFirstParts, StopsBehind, WorksOn}
 use Rattle.mm_run.specs.Sessions.{shown}
 use Rattle.mm_run.specs.declared.apply.Apply.{Ghosts}
 use Rattle.mm_run.proofs.Since.{SettledIs, settled_runs}
 use Rattle.mm_desk.specs.Exchanges.{IsDeskTurn}
-use Rattle.mm_desk.specs.Sittings.{AreReadOf, IsSitting, RunsVisit, Sat, Stays, Visit, acknowledged_by}
+use Rattle.mm_desk.specs.Sittings.{AreReadOf, IsSitting, RunsVisit, Sat, Stays, Visit, acknowledged_by, answered_by}
 
 as_many : (rows : List (List (List ℕ))) (readings : List Reading) → AreReadAs rows readings → length readings ≡ length rows
 unfolding AreReadAs
@@ -26,6 +26,12 @@ as_many (x ∷ xs) (r ∷ rs) it = ap (λ n. suc n) (as_many xs rs it.1)
 
 whole : (rows : List (List (List ℕ))) (readings : List Reading) → AreReadAs rows readings → AreReadAs (take (length readings) rows) readings
 whole rows readings it = let n = as_many rows readings it in subst (λ l. AreReadAs l readings) (sym (take_all (length readings) rows (omega (arith, n)))) it
+
+enough : (works : Package → Type 0) (failed : Type 0) (p : Package) (moment : ℕ) (readings : List Reading) (answered : ℕ)
+    → StopsBehind works failed p moment readings answered → answered ≤ length readings
+enough works failed p moment readings answered (inl it) = omega (arith, it.0)
+enough works failed p moment readings answered (inr (broken, first, command, is, many)) =
+    omega (arith, many, ap (λ l. length l) is, length-append first (Ok command ∷ []))
 
 module _ {A : Type 0} (apply : Ghosts A) where
   kept_left : (p : Package) (calls : List Call) (kept : ℕ) (old new : A) → Stays apply old new → apply.is_clean new → AreFirstParts
@@ -84,12 +90,13 @@ module _ {A : Type 0} (apply : Ghosts A) where
   -- ---- as one run
 
   module _ (law : SettledIs apply) where
-    -- what one list comes to: its readings, what may be left, and, where it did not fail the session, what that is settled for
+    -- what one list comes to: its readings, no fewer than were answered, what may be left, and, where it did not fail the session, that no
+    -- more were read, and what it is settled for
     abbrev Came : Package → Visit → A → A → Type 0
-    Came p v before behind = (readings : List Reading) × AreReadOf v readings
+    Came p v before behind = (readings : List Reading) × AreReadOf v readings × (answered_by v.result ≤ length readings)
         × AreFirstParts (shown apply behind) p (calls_of v.moment readings) (acknowledged_by p v.moment readings v.result)
         × (apply.has_failed before ≡ false → apply.has_failed behind ≡ apply.has_failed before → IsSound (apply.settled behind)
-        (run p (calls_of v.moment readings)))
+        (run p (calls_of v.moment readings)) × (length readings ≡ answered_by v.result))
 
     as_settled : (v : Visit) (before behind : A) → RunsVisit apply v before behind
         → KeepsRun v.moment (apply.is_clean behind) (apply.settled before) (Some v.bytes) (apply.has_failed before) (λ p. shown apply behind) v.old v.new
@@ -100,21 +107,26 @@ module _ {A : Type 0} (apply : Ghosts A) where
     came_by : (result : Result Tally RunFault) (p : Package) (v : Visit) (before behind : A) → v.result ≡ result → RunsVisit apply v before behind
         → apply.is_clean behind → IsSound (apply.settled before) p → Came p v before behind
     came_by (Ok t) p v before behind is ran clean sound =
-        let all = rw is at (as_settled v before behind ran).done clean p sound v.bytes refl in (
+        let all = rw is at (as_settled v before behind ran).done clean p sound v.bytes refl in
+        let n : length all.readings ≡ answered_by (Ok t) = as_many _ _ all.read ∙ sym all.all in (
           all.readings,
           whole _ _ all.read,
+          subst (λ r. answered_by r ≤ length all.readings) (sym is) (omega (arith, n)),
           subst
               (λ r. AreFirstParts (shown apply behind) p (calls_of v.moment all.readings) (acknowledged_by p v.moment all.readings r))
               (sym is) all.left,
-          λ works same. all.stands,
+          λ works same. (all.stands, subst (λ r. length all.readings ≡ answered_by r) (sym is) n),
         )
     came_by (Err e) p v before behind is ran clean sound =
         let some = rw is at (as_settled v before behind ran).stopped clean p sound v.bytes refl in (
           some.readings,
           some.read,
+          subst (λ r. answered_by r ≤ length some.readings) (sym is)
+              (enough (WorksOn (apply.has_failed before) (shown apply behind)) (apply.has_failed behind ≡ true) p v.moment some.readings
+              (e.tally.accepted + e.tally.refused) some.session),
           subst (λ r. AreFirstParts (shown apply behind) p (calls_of v.moment some.readings) (acknowledged_by p v.moment some.readings r)) (sym is) some.left,
           λ works same. elim some.session [
-            | inl it ↦ it.1.1
+            | inl it ↦ (it.1.1, subst (λ r. length some.readings ≡ answered_by r) (sym is) it.0)
             | inr it ↦ absurd (let e : true ≡ false = sym it.0 ∙ same ∙ works in cc)
           ],
         )
@@ -140,15 +152,15 @@ module _ {A : Type 0} (apply : Ghosts A) where
     )
     one_run (v ∷ []) p old new (before, behind, first, ran, last) clean sound works =
         let end = last.clean clean in
-        let (readings, read, parts, goes) = came p v before behind ran end (kept_sound p old before first (ran.clean end) sound) in
-        (calls_of v.moment readings, acknowledged_by p v.moment readings v.result, (readings, read, refl, refl), kept_left p _ _ behind new last clean parts)
+        let (readings, read, many, parts, goes) = came p v before behind ran end (kept_sound p old before first (ran.clean end) sound) in
+        (calls_of v.moment readings, acknowledged_by p v.moment readings v.result, (readings, read, many, refl, refl), kept_left p _ _ behind new last clean parts)
     one_run (v ∷ w ∷ vs) p old new (before, behind, first, ran, same, more) clean sound works =
         let end = clean_before (w ∷ vs) behind new more clean in
-        let (readings, read, parts, goes) = came p v before behind ran end (kept_sound p old before first (ran.clean end) sound) in
+        let (readings, read, many, parts, goes) = came p v before behind ran end (kept_sound p old before first (ran.clean end) sound) in
         let start : apply.has_failed before ≡ false = first.same ∙ works in
-        let (rest, count, is, left) = one_run (w ∷ vs) (run p (calls_of v.moment readings)) behind new more clean (goes start same) (same ∙ start) in (
+        let (rest, count, is, left) = one_run (w ∷ vs) (run p (calls_of v.moment readings)) behind new more clean (goes start same).0 (same ∙ start) in (
           calls_of v.moment readings ++ rest,
           length (accepted p (calls_of v.moment readings)) + count,
-          (readings, read, rest, count, is, refl, refl),
+          (readings, read, (goes start same).1, rest, count, is, refl, refl),
           λ db may. let (q, stands, part, meets) = left db may in (q, stands, first_part_after p q (calls_of v.moment readings) rest count part, meets),
         )

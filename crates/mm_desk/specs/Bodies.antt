@@ -1,5 +1,6 @@
 -- The run of the records of a body that is held.
-use Rattle.std.specs.Prelude.{◌≡◌, ℕ, List, Some, Result, IfErr, codes}
+use Rattle.std.specs.Prelude.{◌≡◌, ◌≢◌, ℕ, Bool, true, List, Some, Result, Ok, Err, IfErr, codes}
+use Rattle.mm_definitions.specs.Faults.{output}
 use Rattle.mm_definitions.specs.Streams.{Written}
 use Rattle.mm_definitions.specs.declared.answers.RunFault.{RunFault}
 use Rattle.mm_definitions.specs.declared.answers.Tally.{Tally}
@@ -11,6 +12,11 @@ use Rattle.mm_run.specs.declared.apply.Apply as applies
 -- the head of the answers to records
 abbrev pub answers_head : List ℕ
 answers_head = codes "HTTP/1.1 200 OK\r\nContent-Type: text/plain\r\nX-Content-Type-Options: nosniff\r\nConnection: close\r\n\r\n"
+
+-- What was written is flushed, where the output did not fail.
+abbrev pub IsFlushedFor : Bool → Result Tally RunFault → Type 0
+IsFlushedFor flushed (Ok t) = flushed ≡ true
+IsFlushedFor flushed (Err e) = e.fault.0 ≢ output.0 → flushed ≡ true
 
 -- It runs the records of these bytes, whatever a connection tells of them.
 pub record RunsBody {A : Type 0} (apply : applies.Ghosts A) (moment : ℕ) (old new : A) (bytes : List ℕ)

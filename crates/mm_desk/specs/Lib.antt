@@ -6,3 +6,4 @@ pub mod Replies
 pub mod Responses
 pub mod Sent
 pub mod Sittings
+pub mod Told

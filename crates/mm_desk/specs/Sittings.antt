@@ -1,5 +1,5 @@
 -- A desk's sitting: the lists that one session ran, with reads between them.
-use Rattle.std.specs.Prelude.{◌≡◌, ◌+◌, ℕ, List, [], ◌∷◌, ◌++◌, Result, Ok, Err, length, take}
+use Rattle.std.specs.Prelude.{◌≡◌, ◌≤◌, ◌+◌, ℕ, List, [], ◌∷◌, ◌++◌, Result, Ok, Err, length, take}
 use Rattle.mm_definitions.specs.Package.{Package}
 use Rattle.mm_definitions.specs.Runs.{Call, run, accepted}
 use Rattle.mm_definitions.specs.Streams.{Written}
@@ -48,12 +48,19 @@ abbrev pub acknowledged_by : Package → ℕ → List Reading → Result Tally R
 acknowledged_by p moment readings (Ok t) = t.accepted
 acknowledged_by p moment readings (Err e) = acknowledged_of p moment readings e.tally
 
--- The commands of all lists, as far as they were read, and how many of the accepted ones are sure to stand: all of each list but the last,
--- and of the last those that were acknowledged.
+-- how many records were answered, of a list that was read to its end all
+abbrev pub answered_by : Result Tally RunFault → ℕ
+answered_by (Ok t) = t.accepted + t.refused
+answered_by (Err e) = e.tally.accepted + e.tally.refused
+
+-- The commands of all lists, and how many of the accepted ones are sure to stand: of each list but the last, all of the records that were
+-- answered, and no other was read; of the last, whose readings are those records and perhaps one more, the ones that were acknowledged.
 unfoldable pub IsSitting : Package → List Visit → List Call → ℕ → Type 0
 IsSitting p [] calls kept = (calls ≡ []) × (kept ≡ 0)
-IsSitting p (v ∷ []) calls kept = (readings : List Reading) × AreReadOf v readings × (calls ≡ calls_of v.moment readings)
+IsSitting p (v ∷ []) calls kept = (readings : List Reading) × AreReadOf v readings × (answered_by v.result ≤ length readings)
+    × (calls ≡ calls_of v.moment readings)
     × (kept ≡ acknowledged_by p v.moment readings v.result)
-IsSitting p (v ∷ w ∷ vs) calls kept = (readings : List Reading) × AreReadOf v readings × (rest : List Call) × (more : ℕ)
+IsSitting p (v ∷ w ∷ vs) calls kept = (readings : List Reading) × AreReadOf v readings × (length readings ≡ answered_by v.result)
+    × (rest : List Call) × (more : ℕ)
     × IsSitting (run p (calls_of v.moment readings)) (w ∷ vs) rest more
     × (calls ≡ calls_of v.moment readings ++ rest) × (kept ≡ length (accepted p (calls_of v.moment readings)) + more)

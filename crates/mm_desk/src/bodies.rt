@@ -1,8 +1,8 @@
 //! The run of the records of a body that is held.
 
 ghost use Rattle.std.specs.Prelude.{◌≡◌, IfOk, IfErr};
-ghost use Rattle.mm_definitions.specs.Streams.{Written, written};
-ghost use Rattle.mm_desk.specs.Bodies.{RunsBody, answers_head};
+ghost use Rattle.mm_definitions.specs.Streams.{Written, is_flushed, written};
+ghost use Rattle.mm_desk.specs.Bodies.{IsFlushedFor, RunsBody, answers_head};
 ghost use Rattle.mm_desk.specs.Sent.{IsCut, IsSentWhole};
 
 use crate::sending::sent;
@@ -33,6 +33,7 @@ pub fn run_body<A: Apply, W: Write>(
     ensures stayed { IfErr result (λ e. session.new ≡ session.old) }
     ensures cut { IfErr result (λ e. IsCut (written W.contents writer.old)
         (written W.contents writer.new) answers_head e.0) }
+    ensures flushed { IfOk result (IsFlushedFor (is_flushed writer.new)) }
 {
     match sent(writer, ANSWERS) {
         Ok(()) => {}

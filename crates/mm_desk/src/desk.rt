@@ -4,11 +4,12 @@ ghost use Rattle.std.specs.Prelude.{◌≡◌, ◌⊎◌, map, option_map, IfErr
 ghost use Rattle.httparse.specs.Grammar.{RequestHead};
 ghost use Rattle.httparse.specs.Spans.{IsRequestAt, IsRequestOf, IsRequestWithin, name_and_value};
 ghost use Rattle.mm_definitions.specs.Faults as faults;
-ghost use Rattle.mm_definitions.specs.Streams.{has_failed, inside, written};
+ghost use Rattle.mm_definitions.specs.Streams.{has_failed, inside, is_flushed, written};
+ghost use Rattle.mm_io.specs.Records.{TellsFailing};
 ghost use Rattle.mm_gate.specs.Bodies.{IsReadFrugally};
 ghost use Rattle.mm_gate.specs.Demand.{IsDemand, demanded};
 ghost use Rattle.mm_desk.specs.Answered.{Demands, IsDeskAnswered, IsBehindHead, IsHeadless, IsPathAnswered, IsReadOn, IsReadTo, IsRecordsRun, Never, page_of};
-ghost use Rattle.mm_desk.specs.Exchanges.{IsExchange};
+ghost use Rattle.mm_desk.specs.Exchanges.{IsExchange, IsFlushedBehind};
 ghost use Rattle.mm_desk.specs.Responses.{go_on};
 ghost use Rattle.mm_desk.specs.Sent.{IsSentOff};
 
@@ -71,8 +72,12 @@ fn run_records<D: Desk, R: Read, W: Write>(
     ensures run { IsRecordsRun length here.now
         D.Apply at (R.remaining (inside reader.old)) (has_failed reader.new)
         desk.old desk.new (written W.contents writer.old) (written W.contents writer.new) result }
+    ensures flushed { IsFlushedBehind (is_flushed writer.new) result }
     ensures frugal { IsReadFrugally here.now length
         (R.remaining (inside reader.old)) (R.remaining (inside reader.new)) }
+    ensures working { OnOk result (has_failed reader.new ≡ has_failed reader.old) }
+    ensures failing { IfErr result
+        (λ e. TellsFailing (has_failed reader.old) (has_failed reader.new) e.0.0) }
 {
     match read_body(alloc, reader, here, length) {
         Ok(Some(body)) => match run_body(alloc, desk, body.as_slice(), writer, at) {
@@ -95,8 +100,9 @@ fn answer_path<D: Desk, W: Write>(
     path: &[u8],
     writer: &mut Io<W>,
 ) -> Result<Done, PageFault>
-    ensures { IsPathAnswered (option_map (λ name. name.now) page.entry) path.now D.Viewer D.Apply
+    ensures answered { IsPathAnswered (option_map (λ name. name.now) page.entry) path.now D.Viewer D.Apply
         desk.old desk.new (written W.contents writer.old) (written W.contents writer.new) result }
+    ensures flushed { IsFlushedBehind (is_flushed writer.new) result }
 {
     let response = match show(alloc, desk, page, path) {
         Ok(response) => response,
@@ -122,8 +128,12 @@ fn answer_demand<D: Desk, R: Read, W: Write>(
     ensures answered { IsDeskAnswered (page_of gate.entry) (IsBehindHead (demanded taken.entry) here.now) Never
         D.Viewer D.Apply at (R.remaining (inside reader.old)) (has_failed reader.new)
         desk.old desk.new (written W.contents writer.old) (written W.contents writer.new) result }
+    ensures flushed { IsFlushedBehind (is_flushed writer.new) result }
     ensures frugal { IsReadOn (demanded taken.entry) here.now
         (R.remaining (inside reader.old)) (R.remaining (inside reader.new)) }
+    ensures working { OnOk result (has_failed reader.new ≡ has_failed reader.old) }
+    ensures failing { IfErr result
+        (λ e. TellsFailing (has_failed reader.old) (has_failed reader.new) e.0.0) }
 {
     match taken {
         Taken::Show(path) => answer_path(alloc, desk, gate.page, path, writer),
@@ -192,10 +202,14 @@ pub fn desk_one<D: Desk, R: Read, W: Write>(
     ensures answered { IsDeskAnswered (page_of gate.entry) (Demands gate.entry) IsHeadless
         D.Viewer D.Apply at (R.remaining (inside reader.old)) (has_failed reader.new)
         desk.old desk.new (written W.contents writer.old) (written W.contents writer.new) result }
+    ensures flushed { IsFlushedBehind (is_flushed writer.new) result }
     ensures frugal { OnOk result (IsReadTo gate.entry
         (R.remaining (inside reader.old)) (R.remaining (inside reader.new))) }
     ensures frugal_fault { IfErr result (λ e. (e.0.0 ≡ faults.input.0) ⊎ IsReadTo gate.entry
         (R.remaining (inside reader.old)) (R.remaining (inside reader.new))) }
+    ensures reading { OnOk result (has_failed reader.new ≡ has_failed reader.old) }
+    ensures failing { IfErr result
+        (λ e. TellsFailing (has_failed reader.old) (has_failed reader.new) e.0.0) }
 {
     let mut buf = [0; MOST_HEAD_BYTES];
     let mut headers = [EMPTY_HEADER_SPAN; MOST_HEAD_LINES];

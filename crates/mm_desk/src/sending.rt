@@ -1,6 +1,7 @@
 //! Sending bytes whole.
 
-ghost use Rattle.mm_definitions.specs.Streams.{written};
+ghost use Rattle.std.specs.Prelude.{◌≡◌, OnOk, true};
+ghost use Rattle.mm_definitions.specs.Streams.{is_flushed, written};
 ghost use Rattle.mm_desk.specs.Sent.{IsSentOff};
 
 use mm_definitions::answers::{Fault, PageFault};
@@ -10,8 +11,9 @@ use std::io::Write;
 
 /// Sends bytes and flushes. 97 where the writer fails: then a front of them was taken.
 pub fn sent<W: Write>(writer: &mut Io<W>, bytes: &[u8]) -> Result<(), PageFault>
-    ensures { IsSentOff (written W.contents writer.old) (written W.contents writer.new) bytes.now
+    ensures told { IsSentOff (written W.contents writer.old) (written W.contents writer.new) bytes.now
         result }
+    ensures flushed { OnOk result (is_flushed writer.new ≡ true) }
 {
     match send(writer, bytes) {
         Sent::Flushed => Ok(()),

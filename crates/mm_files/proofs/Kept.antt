@@ -1,5 +1,5 @@
 -- What is left of a connection's files.
-use Rattle.std.proofs.Common.{arith, ◌≡◌, ◌∙◌, Bool, true, false, not, IsTrue, refl, subst, sym}
+use Rattle.std.proofs.Common.{arith, ◌≡◌, Bool, true, false, IsTrue, refl, subst, sym}
 use Rattle.std.proofs.Math.Logic.{∥∥₁_elim, ∥∥₁_map}
 use Rattle.sqlite_disk.specs.declared.Disk.{Ghosts}
 use Rattle.sqlite_disk.specs.declared.Files.{Files}
@@ -10,7 +10,7 @@ use Rattle.sqlite_wal.proofs.LogLemmas.{SeenMayStay}
 use Rattle.sqlite_pool.specs.Pool as pool
 use Rattle.sqlite_store.specs.declared.store.FileStore.{FileStore}
 use Rattle.sqlite_store.specs.FileStore as file
-use Rattle.sqlite_store.specs.Laws.{not_broken, stays_at}
+use Rattle.sqlite_store.specs.Laws.{stays_at}
 use Rattle.sqlite_store.specs.Listing.{IsOurs}
 use Rattle.sqlite_pool.proofs.StateLemmas.{size_is_allowed}
 use Rattle.sqlite_pool.proofs.ResealLemmas.{adopts_of}
@@ -23,14 +23,10 @@ use Rattle.sqlite_trees.proofs.Doubt.{no_doubt}
 use Rattle.sqlite.specs.State.{State, HasCleanDisk}
 use Rattle.sqlite.proofs.Theorems.{opens_again}
 use Rattle.mm_definitions.specs.Streams.{Written}
-use Rattle.mm_files.specs.Worked.{EndedOn, HoldsAfter, HoldsStill, KeepsLeft, KeepsStill, WorkedOn}
+use Rattle.mm_files.specs.Worked.{EndedOn, HasCleanFiles, HoldsAfter, HoldsStill, KeepsLeft, KeepsStill, WorkedOn}
 
 never : IsTrue false → ⊥
 never lie = cc
-
-false_by : (b : Bool) → IsTrue (not b) → b ≡ false
-false_by false on = refl
-false_by true on = absurd (never on)
 
 -- of files that are not closed nothing is said of the one alone
 holds_both : (image : Image) (db : Trees) → HoldsDatabase image db → HoldsAfter false image db
@@ -65,11 +61,6 @@ module _ {D : Type 0} {g : Ghosts D} where
             (λ found. let r : (after : Trees) × (file_state conn).may_leave after × HoldsAfter false left after =
             (found.0, quiet.outcomes _ found.1, holds_both left found.0 found.2) in r);
       }
-
-  -- a store that answers that it is not broken is open
-  pub open_by : (it : FileStore D g) (broken : Bool) → broken ≡ (file.view it).is_broken → IsTrue (not broken)
-      → IsTrue (file.view it).is_open
-  open_by it broken is on = (not_broken _ _ (sym is ∙ false_by broken on)).1
 
   -- Each image that a crash may leave reads as a database of those that the store allows; where its trees are numbered
   -- it holds it.
@@ -113,22 +104,20 @@ module _ {D : Type 0} {g : Ghosts D} where
         },
       ) in r)))
 
-  pub kept_still : (conn : Held (FileStore D g)) (last : FileStore D g) (files : Files D) (is_open : Bool)
-      → (files.log, files.db) ≡ file.files last
-      → (IsClean (file.view last) → IsTrue is_open → IsTrue (file.view last).is_numbered)
+  pub kept_still : (conn : Held (FileStore D g)) (last : FileStore D g)
+      → (IsClean (file.view last) → IsTrue (file.view last).is_open → IsTrue (file.view last).is_numbered)
       → (IsClean (file.view last) → AreDatabases (file.recovers last))
       → (IsClean (file.view last) → HasCleanDisk (file_state conn))
       → ((db : Trees) → file.recovers last db → (file_state conn).may_leave db)
-      → KeepsStill g (file_state conn) is_open files
-  kept_still conn last files is_open are numbered sound was_clean fewer =
-      let was = λ (clean : AreClean g files.log files.db). subst (λ (f : D × D). AreClean g f.0 f.1) are clean in
-      let calm = λ (clean : AreClean g files.log files.db). no_doubt _ (clean_by last (was clean)) in
+      → KeepsStill g (file_state conn) last
+  kept_still conn last numbered sound was_clean fewer =
+      let calm = λ (clean : HasCleanFiles g last). no_doubt _ (clean_by last clean) in
       record {
         was_clean = λ clean. was_clean (calm clean);
         left = λ clean left may. ∥∥₁_map
-            (reads_again last is_open (numbered (calm clean)) (sound (calm clean)) left
-            (left_by last left (was clean) (subst (λ (f : D × D). outcomes g f.0 f.1 left) are may)))
-            (λ found. let r : (after : Trees) × (file_state conn).may_leave after × HoldsStill is_open left after =
+            (reads_again last (file.view last).is_open (numbered (calm clean)) (sound (calm clean)) left
+            (left_by last left clean may))
+            (λ found. let r : (after : Trees) × (file_state conn).may_leave after × HoldsStill (file.view last).is_open left after =
             (found.0, fewer _ found.1, found.2) in r);
       }
 
@@ -162,18 +151,18 @@ module _ {D Done : Type 0} {g : Ghosts D} {tells : Trees → Written → Written
             (found.0, worked (kept.was_clean clean) found.0 found.1, found.2) in r);
       }
 
-  pub ended_on : (closes : Done → Bool) (is_open : Bool) (files : Files D) (done : Done) → true ≡ closes done
-      → KeepsStill g after is_open files
+  pub ended_on : (closes : Done → Bool) (store : FileStore D g) (done : Done) → true ≡ closes done
+      → KeepsStill g after store
       → (HasCleanDisk after → HasCleanDisk before)
       → (HasCleanDisk after → tells before.committed.trees old new done)
       → (HasCleanDisk after → (db : Trees) → after.may_leave db → leaves before.committed.trees db old new done)
-      → EndedOn g tells leaves closes old new is_open files before
-  ended_on closes is_open files done is kept cleaned told worked = record {
+      → EndedOn g tells leaves closes old new store before
+  ended_on closes store done is kept cleaned told worked = record {
     done = done;
     ended = sym is;
     was_clean = λ clean. cleaned (kept.was_clean clean);
     told = λ clean. told (kept.was_clean clean);
     left = λ clean left may. ∥∥₁_map (kept.left clean left may)
-        (λ found. let r : (db : Trees) × leaves before.committed.trees db old new done × HoldsStill is_open left db =
+        (λ found. let r : (db : Trees) × leaves before.committed.trees db old new done × HoldsStill (file.view store).is_open left db =
         (found.0, worked (kept.was_clean clean) found.0 found.1, found.2) in r);
   }

@@ -14,6 +14,8 @@ use Rattle.sqlite_pages.specs.PageMap.{PageMap}
 use Rattle.sqlite_pool.specs.Stored.{Adopts}
 use Rattle.sqlite_store.specs.Listing.{IsOurs, file_trees}
 use Rattle.sqlite_store.specs.declared.catalog.Wanted.{Wanted}
+use Rattle.sqlite_store.specs.declared.store.FileStore.{FileStore}
+use Rattle.sqlite_store.specs.FileStore as file
 use Rattle.mm_definitions.specs.Keys.{Text}
 use Rattle.mm_definitions.specs.Streams.{Written}
 use Rattle.mm_files.specs.Files.{HoldNoByte, IsUntoldFor, IsWhyNot}
@@ -23,6 +25,7 @@ use Rattle.sqlite.specs.declared.file.Leftover.{Leftover}
 use Rattle.mm_files.specs.declared.left.Left.{Left}
 use Rattle.mm_files.specs.declared.left.Left.TheVariants as left
 use Rattle.mm_files.specs.declared.left.Opened.{Opened}
+use Rattle.mm_files.specs.declared.left.Unclosed.{Unclosed}
 
 -- ---- a connection
 
@@ -75,11 +78,25 @@ module _ {D : Type 0} (g : Ghosts D) where
       (image : Image) → outcomes g files.log files.db image
       → ∥ ((after : Trees) × is after × HoldsAfter closed image after) ∥₁
 
-  -- so of files that could not be closed
-  abbrev pub LeavesStill : (Trees → Type 0) → Bool → Files D → Type 0
-  LeavesStill is is_open files =
-      (image : Image) → outcomes g files.log files.db image
-      → ∥ ((after : Trees) × is after × HoldsStill is_open image after) ∥₁
+  -- the two files of a store have returned what was written
+  abbrev pub HasCleanFiles : FileStore D g → Type 0
+  HasCleanFiles store = AreClean g (file.files store).0 (file.files store).1
+
+  -- a crash, or none, may leave this of them
+  abbrev pub MayLeave : FileStore D g → Image → Type 0
+  MayLeave store image = outcomes g (file.files store).0 (file.files store).1 image
+
+  -- so of files that could not be closed, by their store
+  abbrev pub LeavesStill : (Trees → Type 0) → FileStore D g → Type 0
+  LeavesStill is store = (image : Image) → MayLeave store image
+      → ∥ ((after : Trees) × is after × HoldsStill (file.view store).is_open image after) ∥₁
+
+  -- Files that could not be closed have returned what was written, their store is open still, and a crash, or none, may
+  -- leave this of them.
+  pub record IsLeftOpen (it : Unclosed D g) (image : Image) : Type 0 where
+    pub clean : HasCleanFiles it.store
+    pub up : IsTrue (file.view it.store).is_open
+    pub left : MayLeave it.store image
 
   -- Where the files are clean the disk was, and they hold a database that might be left, also after a crash.
   pub record KeepsLeft (s : State) (closed : Bool) (files : Files D) : Type 0 where
@@ -87,9 +104,9 @@ module _ {D : Type 0} (g : Ghosts D) where
     pub left : AreClean g files.log files.db → LeavesTo s.may_leave closed files
 
   -- so where they could not be closed
-  pub record KeepsStill (s : State) (is_open : Bool) (files : Files D) : Type 0 where
-    pub was_clean : AreClean g files.log files.db → HasCleanDisk s
-    pub left : AreClean g files.log files.db → LeavesStill s.may_leave is_open files
+  pub record KeepsStill (s : State) (store : FileStore D g) : Type 0 where
+    pub was_clean : HasCleanFiles store → HasCleanDisk s
+    pub left : HasCleanFiles store → LeavesStill s.may_leave store
 
   module _ {Done : Type 0} (tells : Trees → Written → Written → Done → Type 0)
       (leaves : Trees → Trees → Written → Written → Done → Type 0)
@@ -114,21 +131,20 @@ module _ {D : Type 0} (g : Ghosts D) where
   -- that a crash, or none, may leave of them reads as a database that the work leaves.
   module _ {Done : Type 0} (tells : Trees → Written → Written → Done → Type 0)
       (leaves : Trees → Trees → Written → Written → Done → Type 0)
-      (closes : Done → Bool) (old new : Written) (is_open : Bool) (files : Files D) where
+      (closes : Done → Bool) (old new : Written) (store : FileStore D g) where
     -- of the database that a connection found
     pub record EndedOn (s : State) : Type 0 where
       pub done : Done
       pub ended : closes done ≡ true
-      pub was_clean : AreClean g files.log files.db → HasCleanDisk s
-      pub told : AreClean g files.log files.db → tells s.committed.trees old new done
-      pub left : AreClean g files.log files.db
-          → LeavesStill (λ after. leaves s.committed.trees after old new done) is_open files
+      pub was_clean : HasCleanFiles store → HasCleanDisk s
+      pub told : HasCleanFiles store → tells s.committed.trees old new done
+      pub left : HasCleanFiles store → LeavesStill (λ after. leaves s.committed.trees after old new done) store
 
     -- of what was found in the files, by what they held as they were opened
     abbrev pub EndedFrom : Image → Type 0
-    EndedFrom image = (done : Done) × (closes done ≡ true) × (AreClean g files.log files.db
+    EndedFrom image = (done : Done) × (closes done ≡ true) × (HasCleanFiles store
         → (found : Trees) × IsFoundIn image found × tells found old new done
-        × LeavesStill (λ after. leaves found after old new done) is_open files)
+        × LeavesStill (λ after. leaves found after old new done) store)
 
   -- an open of files that held this failed, and what it leaves is said of them
   abbrev pub IsRefused : Image → Leftover D g → Type 0
@@ -160,7 +176,7 @@ module _ {D : Type 0} (g : Ghosts D) where
       → (Trees → Trees → Written → Written → Done → Type 0)
       → (Done → Bool) → Written → Written → Image → Left D S g → Type 0
   IsUnclosed tells leaves closes old new image (left.Unclosed it) =
-      EndedFrom tells leaves closes old new it.is_open it.files image
+      EndedFrom tells leaves closes old new it.store image
   IsUnclosed tells leaves closes old new image rest = ⊤
 
   -- bytes are told where they stand, and of files alone that were opened

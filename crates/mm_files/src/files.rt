@@ -10,6 +10,7 @@ ghost use Rattle.sqlite.specs.State.{HasCleanDisk};
 ghost use Rattle.sqlite.specs.Start.{FindsIn};
 ghost use Rattle.sqlite.specs.WalFiles.{image_at};
 ghost use Rattle.sqlite.specs.WalReads.{AreClean, OnlyReads};
+ghost use Rattle.mm_io.specs.Sending.{IsOut};
 ghost use Rattle.mm_files.specs.Files.{HoldNoByte, IsUntold, IsWhyNot, TellsBare};
 ghost use Rattle.mm_files.specs.Worked.{EndedOn, HasNotWorked, HasWorked, IsJustOpened, IsUnbegun, IsUnworked};
 ghost use Rattle.mm_files.specs.Worked.{KeepsLeft, KeepsStill, TellsFileBytes, WorkedOn};
@@ -204,24 +205,21 @@ fn told_as(error: StoreError) -> Fault
     }
 }
 
-/// Closes the files, which copies the journal back, and gives them back. Where that fails they are given back as they
-/// are, with whether the store was open still.
+/// Closes the files, which copies the journal back, and gives them back. Where that fails their store is given back as
+/// it is.
 fn close_files<D: Disk + Drop>(
     conn: Connection<FileStore<D>>,
-) -> Result<Files<D>, (Files<D>, bool, Fault)>
+) -> Result<Files<D>, (FileStore<D>, Fault)>
     ensures kept { IfOk result (KeepsLeft D.Disk (file_state conn) true) }
-    ensures still { IfErr result (λ e. KeepsStill D.Disk (file_state conn) e.1 e.0) }
-    ensures fault { IfErr result (λ e. IsStoreFault e.2) }
+    ensures still { IfErr result (λ e. KeepsStill D.Disk (file_state conn) e.0) }
+    ensures fault { IfErr result (λ e. IsStoreFault e.1) }
 {
     let mut store = conn.into_store();
     // Again, for what only this store's rollback says of the journal.
     store.rollback();
     match store.checkpoint() {
         Ok(()) => Ok(store.close()),
-        Err(error) => {
-            let is_open = !store.is_broken();
-            Err((store.close(), is_open, told_as(error)))
-        }
+        Err(error) => Err((store, told_as(error))),
     }
 }
 
@@ -232,7 +230,7 @@ fn work_and_close<D: Disk + Drop, K: Works, W: Write>(
     conn: Connection<FileStore<D>>,
     work: &mut K,
     output: &mut Io<W>,
-) -> Result<(Files<D>, K::Done), (Files<D>, bool, Fault)>
+) -> Result<(Files<D>, K::Done), (FileStore<D>, Fault)>
     requires mode { conn.in_transaction ≡ false }
     requires fresh { HasCleanDisk (file_state conn) → IsJustOpened (file_state conn) }
     ensures done { IfOk result (λ r. K.comes_to work.old
@@ -242,10 +240,11 @@ fn work_and_close<D: Disk + Drop, K: Works, W: Write>(
         r.0 r.1 (file_state conn)) }
     ensures ended { IfErr result (λ e. EndedOn D.Disk (K.tells work.old) (K.leaves work.old)
         K.closes (written W.contents output.old) (written W.contents output.new)
-        e.1 e.0 (file_state conn)) }
-    ensures fault { IfErr result (λ e. IsStoreFault e.2) }
+        e.0 (file_state conn)) }
+    ensures fault { IfErr result (λ e. IsStoreFault e.1) }
     ensures untold { OnErr result (IsUntold (K.comes_to work.old) K.closes
         (written W.contents output.old) (written W.contents output.new)) }
+    ensures out { IsOut output.old → IsOut output.new }
 {
     let (conn, done) = work.work(alloc, conn, output);
     if !K::closes(done) {
@@ -276,6 +275,7 @@ pub fn on_file<'a, S: Start, K: Works, W: Write>(
     ensures unworked { IfErr result (λ e. HasNotWorked ⟦<FileFrom<S> as Disk>⟧ (image_at S.Start)
         path.now length (K.comes_to work.old) (K.tells work.old) (K.leaves work.old) K.closes
         (written W.contents output.old) (written W.contents output.new) e.0 e.1) }
+    ensures out { IsOut output.old → IsOut output.new }
 {
     let (path, conn) = match open_files(rt, path, length, start) {
         Ok(opened) => opened,
@@ -283,12 +283,8 @@ pub fn on_file<'a, S: Start, K: Works, W: Write>(
     };
     match work_and_close(rt.alloc(), conn, work, output) {
         Ok((files, done)) => Ok((Opened { path, files }, done)),
-        Err((files, is_open, fault)) => Err((
-            Left::Unclosed(Unclosed {
-                path,
-                files,
-                is_open,
-            }),
+        Err((store, fault)) => Err((
+            Left::Unclosed(Unclosed { path, store }),
             NotDone::Fault(fault),
         )),
     }

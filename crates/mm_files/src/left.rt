@@ -1,7 +1,7 @@
 //! What is left of a file and its journal.
 
 use mm_definitions::answers::Fault;
-use sqlite::{Files, Leftover};
+use sqlite::{FileStore, Files, Leftover};
 use sqlite_disk::Disk;
 
 /// Why work on a file was not done, or not told.
@@ -25,10 +25,9 @@ pub struct Opened<'a, D: Disk> {
 pub struct Unclosed<'a, D: Disk> {
     /// The path that the system was given.
     pub path: &'a str,
-    pub files: Files<D>,
-    /// The fault left the store open, as one does that comes while pages are copied; one that comes as the journal is
-    /// begun anew shuts it.
-    pub is_open: bool,
+    /// The store of them. The fault left it open, as one does that comes while pages are copied; one that comes as the
+    /// journal is begun anew shuts it.
+    pub store: FileStore<D>,
 }
 
 /// What is left of the file at a path, and of its journal, where `S` stands for what they held.

@@ -5,6 +5,7 @@ ghost use Rattle.sqlite.specs.Tree.{Trees};
 ghost use Rattle.sqlite.specs.Held.{state};
 ghost use Rattle.sqlite.specs.State.{HasCleanDisk};
 ghost use Rattle.mm_definitions.specs.Streams.{Written, written};
+ghost use Rattle.mm_io.specs.Sending.{IsOut};
 ghost use Rattle.mm_files.specs.Worked.{IsJustOpened};
 
 use mm_definitions::streams::Io;
@@ -40,6 +41,7 @@ pub trait Works {
         requires fresh { HasCleanDisk (state S.Store conn) → IsJustOpened (state S.Store conn) }
         ensures told { comes_to self.old
             (written W.contents output.old) (written W.contents output.new) result.1 }
+        ensures out { IsOut output.old → IsOut output.new }
         ensures clean { HasCleanDisk (state S.Store result.0) → HasCleanDisk (state S.Store conn) }
         ensures found { HasCleanDisk (state S.Store result.0)
             → tells self.old (state S.Store conn).committed.trees

@@ -3,7 +3,7 @@
 ghost use Rattle.std.specs.Prelude.{◌≡◌, ◌<◌, ℕ, take, length, true, false};
 ghost use Rattle.std.specs.Io.KnownBytes.{Appends};
 ghost use Rattle.mm_definitions.specs.Streams.{has_failed, inside, is_flushed, written};
-ghost use Rattle.mm_io.specs.Sending.{Sends};
+ghost use Rattle.mm_io.specs.Sending.{IsOut, Sends};
 
 use mm_definitions::streams::Io;
 use std::io::Write;
@@ -44,6 +44,7 @@ pub fn send<W: Write>(writer: &mut Io<W>, bytes: &[u8]) -> Sent
     ensures sent { Sends (written W.contents writer.old) (written W.contents writer.new)
         bytes.now result }
     ensures flushed { result ≡ Sent.Flushed → is_flushed writer.new ≡ true }
+    ensures out { IsOut writer.new }
 {
     if !write_whole(writer, bytes) {
         return Sent::Cut;

@@ -7,7 +7,7 @@ use Rattle.std.specs.declared.vec.Vec.{Vec}
 use Rattle.mm_definitions.specs.Faults as faults
 use Rattle.mm_definitions.specs.Keys.{Text}
 use Rattle.mm_definitions.specs.Package.{Package}
-use Rattle.mm_definitions.specs.Streams.{has_failed, inside}
+use Rattle.mm_definitions.specs.Streams.{has_failed, inside, is_flushed}
 use Rattle.mm_definitions.specs.declared.answers.Fault.{Fault}
 use Rattle.mm_definitions.specs.declared.answers.PageFault.{PageFault}
 use Rattle.mm_definitions.specs.declared.streams.Io.{Io}
@@ -30,8 +30,9 @@ pub record ServesRequest {V R W : Type 0} (view : viewers.Ghosts V) (read : read
   -- What was written is the page of the package and of all that the input had still to give, however it is cut.
   pub served : OnOk result (ServedTo (IsOn (view.has_failed old) (view.store old) (view.store new))
       (read.remaining (inside input)) (write.contents (inside output)) (write.contents (inside output_now)))
-  -- The output has not failed then.
+  -- The output has not failed then, and all is flushed.
   pub working : OnOk result (has_failed output_now ≡ has_failed output)
+  pub flushed : OnOk result (is_flushed output_now ≡ true)
   -- Nor has the input failed since.
   pub reading : OnOk result (has_failed input_now ≡ has_failed input)
   -- An input that has failed since is told: by 96.

@@ -6,3 +6,4 @@ pub mod Printed
 pub mod Attending
 pub mod Off
 pub mod Ended
+pub mod Answered

@@ -1,7 +1,7 @@
 -- From one run of the program to the next.
 use Rattle.std.proofs.Common.{arith, ◌≡◌, ℕ, List, [], ◌∷◌, Option, Some, Result, Ok, Err, Bool, IfErr, inl, inr}
 use Rattle.std.proofs.Common.{refl, sym, subst}
-use Rattle.std.specs.Prelude.{⊤, IsTrue, true}
+use Rattle.std.specs.Prelude.{⊤, IsTrue, true, false}
 use Rattle.std.proofs.Math.Logic.{∥∥₁_elim, ∥∥₁_map}
 use Rattle.sqlite_disk.specs.declared.Disk.{Ghosts}
 use Rattle.sqlite.specs.Tree.{Trees}
@@ -20,11 +20,19 @@ use Rattle.mm_definitions.specs.declared.answers.Open.{Open}
 use Rattle.mm_definitions.specs.declared.answers.Open.TheVariants as opens
 use Rattle.mm_laws.proofs.Opened.{opened}
 use Rattle.mm_core.proofs.Failing.{none_fails}
+use Rattle.mm_core.specs.Opening.{HasNoTable}
 use Rattle.mm_core.specs.Adopted.{Declines}
 use Rattle.mm_core.specs.Applied.{StandsForCurrent}
 use Rattle.mm_definitions.specs.declared.answers.KitFault.{KitFault}
 use Rattle.mm_definitions.specs.declared.answers.Staged.{Staged}
+use Rattle.mm_definitions.specs.declared.answers.Staged.TheVariants.{Complete, Refused}
 use Rattle.mm_kit.specs.Folders.{Files}
+use Rattle.mm_kit.specs.Imports.{HasAnswered, IsImportAnswered}
+use Rattle.mm_kit.specs.Lists.{IsKitList}
+use Rattle.mm_kit.specs.declared.entries.KitEntry.{KitEntry}
+use Rattle.mm_store.proofs.Single.{stands_once}
+use Rattle.mm_files.specs.Files.{HoldNoByte}
+use Rattle.mm_files.specs.Worked.{IsLeftOpen}
 use Rattle.mm_files.specs.declared.left.Opened.{Opened}
 use Rattle.mm_files.specs.declared.left.Unclosed.{Unclosed}
 use Rattle.mm_work.specs.Declined.{stop_of}
@@ -36,7 +44,7 @@ use Rattle.mm_program.specs.Desks.{LeavesDesk}
 use Rattle.mm_program.specs.Left.{IsDeclinedFor, LeavesFine, LeavesImport, LeavesMade, LeavesRun, LeavesSame, RanTo}
 use Rattle.mm_program.specs.Left.{StaysFor, TellsChecked}
 use Rattle.mm_program.specs.Life.{AreMade, Deed, IsLife, IsPartOf, Leads, LeavesBy, LivesOn, DeedMakes, MakesAttended}
-use Rattle.mm_program.specs.Life.{MakesBy, MakesImport, Ran, Use, Looks, Runs, Attends, Imports, Migrates}
+use Rattle.mm_program.specs.Life.{HoldsKit, MakesBy, MakesImport, Ran, Use, Looks, Runs, Attends, Imports, Migrates}
 use Rattle.mm_program.specs.Worked.{closes_done}
 
 -- what is left of files that were worked on, by what they held
@@ -55,17 +63,15 @@ module _ {D T : Type 0} (g : Ghosts D) (image : Image) (path : Text) (tells : Tr
 -- what is left of files that could not be closed behind work that came to its end, where the store was open still
 module _ {D T : Type 0} (g : Ghosts D) (image : Image) (path : Text) (tells : Trees → Result T Stop → Type 0)
     (leaves : Trees → Trees → Result T Stop → Type 0)
-    (closes : Result T Stop → Bool) (why : Stop) (it : Unclosed D) where
-  pub leads_unclosed : OffClose g image path tells leaves closes why it → IsTrue it.is_open
-      → AreClean g it.files.log it.files.db
-      → (next : Image) → outcomes g it.files.log it.files.db next
+    (closes : Result T Stop → Bool) (why : Stop) (it : Unclosed D g) where
+  pub leads_unclosed : OffClose g image path tells leaves closes why it → (next : Image) → IsLeftOpen g it next
       → (done : Result T Stop) × (closes done ≡ true) × Leads (λ found after. leaves found after done) image next
-  leads_unclosed off up clean next may =
+  leads_unclosed off next on =
       let (done, ended, all) = off.2 in
-      let (found, is, told, left) = all clean in (
+      let (found, is, told, left) = all on.clean in (
         done,
         ended,
-        λ db holds. ∥∥₁_elim (left next may) squash₁ (λ x. ∥∥₁_map (x.2.holds up) (λ held.
+        λ db holds. ∥∥₁_elim (left next on.left) squash₁ (λ x. ∥∥₁_map (x.2.holds on.up) (λ held.
             let r : (after : Trees) × leaves db after done × HoldsDatabase next after =
             (x.0, subst (λ t. leaves t x.0 done) (is.holds db holds) x.1, held) in r)),
       )
@@ -91,14 +97,32 @@ makes_by r (Ok status) db after p stands meets leaves =
 makes_by r (Err why) db after p stands meets same =
     (p, subst (λ t. StandsForCurrent t p) (sym same) stands, meets, refl)
 
+-- of a list that was read: where all was complete, it is a kit's, and its pieces are the edition's
+holds_kit : (files : Files) (name : Text) (p q : Package) (n : ℕ) (list : Result (List KitEntry) (ℕ × ℕ))
+    → IsKitList files list → HasAnswered files name list p q (Complete n) → HoldsKit files name q (Ok (Complete n))
+holds_kit files name p q n (Ok entries) read has = (entries, read, has)
+holds_kit files name p q n (Err at) read has = absurd has
+
+-- so of the one package that the database stands for
+holds_all : (files : Files) (name : Text) (p q : Package) (after : Trees) (n : ℕ) → StandsForCurrent after q
+    → IsImportAnswered files name p (λ r. StandsForCurrent after r) (Complete n)
+    → HoldsKit files name q (Ok (Complete n))
+holds_all files name p q after n stands it =
+    subst (λ r. HoldsKit files name r (Ok (Complete n))) (stands_once current.version after it.next q it.sound.0 stands)
+    (holds_kit files name p it.next n it.list it.read it.has)
+
 import_makes : (told : Option Files) (name : Text) (done : Result (Result Staged KitFault) Stop) (db after : Trees)
     (p : Package) → StandsForCurrent db p
     → Meets current p → LeavesImport told name db after done
-    → (q : Package) × StandsForCurrent after q × Meets current q × MakesImport name done p q
-import_makes told name (Ok (Ok answer)) db after p stands meets leaves =
-    let (q, sound, keeps) = (leaves p stands meets).kept in (q, sound.0, sound.1, keeps)
+    → (q : Package) × StandsForCurrent after q × Meets current q × MakesImport told name done p q
+import_makes told name (Ok (Ok (Complete n))) db after p stands meets leaves =
+    let it = leaves p stands meets in
+    let (q, sound, keeps) = it.kept in
+    (q, sound.0, sound.1, (keeps, λ files is. holds_all files name p q after n sound.0 (it.imported files is)))
+import_makes told name (Ok (Ok (Refused place number))) db after p stands meets leaves =
+    let (q, sound, keeps) = (leaves p stands meets).kept in (q, sound.0, sound.1, (keeps, λ files is. tt))
 import_makes told name (Ok (Err stopped)) db after p stands meets leaves =
-    let (q, now, still, keeps) = (leaves p stands meets).kept after refl in (q, now, still, keeps)
+    let (q, now, still, keeps) = (leaves p stands meets).kept after refl in (q, now, still, (keeps, λ files is. tt))
 import_makes told name (Err why) db after p stands meets same =
     (p, subst (λ t. StandsForCurrent t p) (sym same) stands, meets, refl)
 
@@ -183,6 +207,24 @@ module _ {D : Type 0} (g : Ghosts D) (image : Image) (path : Text) (opened_at : 
       → IsLife first uses next → ∥ LivesOn next opening uses ∥₁
   begins_life first may uses next life =
       ∥∥₁_elim (begins first may) squash₁ (λ it. lives_on uses first next life it.0 opening it.2 it.1 (opened current))
+
+-- where the files could not be closed behind the making
+module _ {D : Type 0} (g : Ghosts D) (image : Image) (path : Text) (why : Stop) (it : Unclosed D g) where
+  stands_made : (done : Result (Unit {0}) Stop) → closes_done done ≡ true → (found after : Trees) → HasNoTable found
+      → LeavesMade found after done → StandsForCurrent after opening
+  stands_made (Ok made) ended found after none leaves = leaves none
+  stands_made (Err why) ended found after none leaves = absurd (let e : false ≡ true = ended in cc)
+
+  pub begins_unclosed : HoldNoByte image → OffClose g image path (λ found done. ⊤) LeavesMade closes_done why it
+      → (next : Image) → IsLeftOpen g it next → ∥ LivesOn next opening [] ∥₁
+  unfolding IsLife
+  begins_unclosed none off next on =
+      let (done, ended, all) = off.2 in
+      let (found, is, told, left) = all on.clean in
+      ∥∥₁_elim (left next on.left) squash₁ (λ x. ∥∥₁_elim (x.2.holds on.up) squash₁ (λ held.
+      lives_on [] next next refl x.0 opening held
+      (stands_made done ended found x.0 ∣ empty_is_sound found (is.nothing (inl (inl none.1))) ∣₁ x.1)
+      (opened current)))
 
 -- ---- how it is checked
 

@@ -8,7 +8,7 @@ use Rattle.mm_definitions.specs.Keys.{Text}
 use Rattle.mm_definitions.specs.Streams.{Written}
 use Rattle.mm_definitions.specs.Faults.{IsStoreFault}
 use Rattle.mm_files.specs.Files.{HoldNoByte}
-use Rattle.mm_files.specs.Worked.{IsFoundIn, IsRefused, IsUnprinted, LeavesStill, LeavesTo}
+use Rattle.mm_files.specs.Worked.{HasCleanFiles, IsFoundIn, IsRefused, IsUnprinted, LeavesStill, LeavesTo}
 use Rattle.mm_files.specs.declared.left.NotDone.{NotDone}
 use Rattle.mm_files.specs.declared.left.NotDone.TheVariants as why
 use Rattle.mm_files.specs.declared.left.Left.{Left}
@@ -43,11 +43,10 @@ StopsStore other = ⊥
 -- was found in them is told of, and each thing that a crash, or none, may leave of them is as the work leaves it.
 module _ {D Done : Type 0} (g : Ghosts D) (image : Image) (path : Text) (tells : Trees → Done → Type 0)
     (leaves : Trees → Trees → Done → Type 0) (closes : Done → Bool) (why : Stop) where
-  abbrev pub OffClose : Unclosed D → Type 0
+  abbrev pub OffClose : Unclosed D g → Type 0
   OffClose it = StopsStore why × (it.path.now ≡ path) × ((ended : Done) × (closes ended ≡ true)
-      × (AreClean g it.files.log it.files.db
-      → (found : Trees) × IsFoundIn image found × tells found ended
-      × LeavesStill g (λ after. leaves found after ended) it.is_open it.files))
+      × (HasCleanFiles g it.store → (found : Trees) × IsFoundIn image found × tells found ended
+      × LeavesStill g (λ after. leaves found after ended) it.store))
 
 -- Of the files at this path, by what they held as they were opened, and by why work on them is not told: no file was
 -- opened, for such a cause; the system did not open them; an open failed, and what it leaves is said of them; or they

@@ -10,3 +10,4 @@ pub mod Printed
 pub mod Told
 pub mod Served
 pub mod Worked
+pub mod Attended

@@ -1,5 +1,5 @@
 -- The life of a file: one run of the program behind another, and a crash, or none, between them.
-use Rattle.std.specs.Prelude.{◌≡◌, ℕ, List, [], ◌∷◌, Option, Some, Result, Ok, Err}
+use Rattle.std.specs.Prelude.{◌≡◌, ⊤, ℕ, List, [], ◌∷◌, Option, Some, Result, Ok, Err}
 use Rattle.std.proofs.Common.{inl, inr}
 use Rattle.sqlite.specs.Tree.{Trees}
 use Rattle.sqlite.specs.Recovery.{Image}
@@ -12,8 +12,11 @@ use Rattle.mm_definitions.specs.Runs.{Call, IsFirstPart}
 use Rattle.mm_definitions.specs.Streams.{Written}
 use Rattle.mm_definitions.specs.declared.answers.KitFault.{KitFault}
 use Rattle.mm_definitions.specs.declared.answers.Staged.{Staged}
+use Rattle.mm_definitions.specs.declared.answers.Staged.TheVariants.{Complete, Refused}
 use Rattle.mm_kit.specs.Folders.{Files}
-use Rattle.mm_kit.specs.Imports.{KeepsOthers}
+use Rattle.mm_kit.specs.Imports.{HasWhole, KeepsOthers}
+use Rattle.mm_kit.specs.Lists.{IsKitList}
+use Rattle.mm_kit.specs.declared.entries.KitEntry.{KitEntry}
 use Rattle.mm_core.specs.Applied.{StandsForCurrent}
 use Rattle.mm_core.specs.Answers.{calls_of}
 use Rattle.mm_core.specs.Runs.{acknowledged_of}
@@ -95,18 +98,27 @@ MakesAttended (Ok status) p q =
     × IsFirstPart p calls kept q
 MakesAttended (Err why) p q = q ≡ p
 
--- what an import makes of it: nothing but the pieces of its edition differs, and those that stood stand; or nothing was
--- imported
-abbrev pub MakesImport : Text → Result (Result Staged KitFault) Stop → Package → Package → Type 0
-MakesImport name (Ok import) p q = KeepsOthers name p q
-MakesImport name (Err why) p q = q ≡ p
+-- what an import tells of the package behind it, of a folder that tells its files: where it is complete, the folder's
+-- list is a kit's, and the edition has the kit's pieces, so many, and no others
+abbrev pub HoldsKit : Files → Text → Package → Result Staged KitFault → Type 0
+HoldsKit files name q (Ok (Complete n)) =
+    (entries : List KitEntry) × IsKitList files (Ok entries) × HasWhole files name entries q n
+HoldsKit files name q (Ok (Refused place number)) = ⊤
+HoldsKit files name q (Err stopped) = ⊤
+
+-- what an import makes of it: nothing but the pieces of its edition differs, and those that stood stand, and they are
+-- the kit's where it is told complete; or nothing was imported
+abbrev pub MakesImport : Option Files → Text → Result (Result Staged KitFault) Stop → Package → Package → Type 0
+MakesImport told name (Ok import) p q =
+    KeepsOthers name p q × ((files : Files) → told ≡ Some files → HoldsKit files name q import)
+MakesImport told name (Err why) p q = q ≡ p
 
 -- what a use makes of it; a migration finds it in micrometres
 abbrev pub DeedMakes : Deed → Package → Package → Type 0
 DeedMakes Looks p q = q ≡ p
 DeedMakes (Runs r) p q = MakesBy r r.done p q
 DeedMakes (Attends done) p q = MakesAttended done p q
-DeedMakes (Imports i) p q = MakesImport i.name i.done p q
+DeedMakes (Imports i) p q = MakesImport i.told i.name i.done p q
 DeedMakes (Migrates done) p q = q ≡ p
 
 -- Each use makes a package of the one that the use before made, and each of them meets the rules.

@@ -6,6 +6,7 @@ ghost use Rattle.mm_definitions.specs.Streams.{written};
 ghost use Rattle.mm_definitions.specs.Streams as streams;
 ghost use Rattle.mm_core.specs.Parts.{connection, must_reopen};
 ghost use Rattle.mm_core.specs.Viewers.{LeavesPackage};
+ghost use Rattle.mm_core.specs.Writing.{IsOut};
 ghost use Rattle.mm_work.specs.Pages.{IsServed, IsServiceFault, Outcome, TellsMore};
 
 use mm_core::Session;
@@ -47,6 +48,7 @@ pub fn serve_on<S: Alter, L: Serves<S>, W: Write>(
         × TellsMore (L.outcomes listener.old) (L.outcomes listener.new) outcomes
         × IsServed count outcomes (written W.contents output.old)
         (written W.contents output.new) result }
+    ensures out { IsOut output.old → IsOut output.new }
 {
     let mut status = DONE;
     for served in 0..count {

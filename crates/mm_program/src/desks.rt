@@ -1,12 +1,14 @@
 //! The desk over sockets: one session that shows the package and takes records.
 
-ghost use Rattle.std.specs.Prelude.{◌≡◌, ◌≤◌, ◌⊎◌, List, false, true, IfErr, IfOk, string_bytes};
+ghost use Rattle.std.specs.Prelude.{◌≡◌, ◌≤◌, ◌⊎◌, List, None, Some, false, true, IfErr, IfOk, IfSome, string_bytes};
 ghost use Rattle.sqlite.specs.Held.{state};
 ghost use Rattle.sqlite.specs.WalFiles.{image_at};
 ghost use Rattle.mm_definitions.specs.Streams.{written};
 ghost use Rattle.mm_definitions.specs.Streams as streams;
 ghost use Rattle.mm_core.specs.Parts.{connection, must_reopen};
 ghost use Rattle.mm_core.specs.Viewers.{LeavesPackage};
+ghost use Rattle.mm_core.specs.Writing.{IsOut};
+ghost use Rattle.mm_desk.specs.Answered.{page_of};
 ghost use Rattle.mm_desk.specs.Sittings.{Sat, Visit};
 ghost use Rattle.mm_files.specs.Worked.{IsUnprinted};
 ghost use Rattle.mm_program.specs.Desks.{IsAttended, IsDeskDone, IsKey, IsSeated, LeavesDesk, NamesNone, Sits};
@@ -75,6 +77,9 @@ struct Doors<'a> {
 }
 
 impl<'a, S: Alter> Comes<Session<S>> for Doors<'a> {
+    // Sockets tell none.
+    ghost told = { λ doors. None };
+
     /// Answers the next connection. 96 where there is none to be had, where nothing came on it, and where the clock
     /// tells no moment.
     fn answer_next(&mut self, alloc: Global, session: &mut Session<S>) -> Result<Done, PageFault> {
@@ -130,6 +135,17 @@ fn address_line(alloc: Global, port: u16, key: &str, page: Option<&str>) -> Resu
     }
 }
 
+/// The table of pages that the words name, where that is a name.
+fn page_named(page: Option<&str>) -> Option<Name>
+    ensures named { IfSome result (λ name. table_of page.entry ≡ Some name) }
+    ensures none { result ≡ None → NamesNone (table_of page.entry) ⊎ (table_of page.entry ≡ None) }
+{
+    match page {
+        Some(table) => Name::read(table),
+        None => None,
+    }
+}
+
 /// The connections of a listener, for who has the key behind the slash.
 fn doors_of<'a>(
     rt: &'a HostRuntime,
@@ -137,7 +153,11 @@ fn doors_of<'a>(
     port: u16,
     front: &'a str,
     named: &'a Option<Name>,
-) -> Doors<'a> {
+) -> Doors<'a>
+    ensures port { result.gate.port ≡ port }
+    ensures front { result.gate.front.now ≡ front.now }
+    ensures page { page_of result.gate ≡ named.now }
+{
     let page = named.as_ref();
     let gate = Gate { port, front, page };
     Doors { rt, listener, gate }
@@ -153,13 +173,11 @@ fn attend_doors<S: Alter, W: Write>(
 ) -> u8
     ensures told { IsAttended work.now.count (written W.contents output.old)
         (written W.contents output.new) result }
+    ensures out { IsOut output.old → IsOut output.new }
     ensures sat { must_reopen session.old ≡ false → (visits : List Visit)
         × Sat ⟦<Session<S> as Apply>⟧ session.old visits session.new }
 {
-    let named = match work.page {
-        Some(table) => Name::read(table),
-        None => None,
-    };
+    let named = page_named(work.page);
     let mut doors = doors_of(work.rt, listener, work.port, front, &named);
     attend(work.rt.alloc(), session, &mut doors, work.count, output)
 }
@@ -179,6 +197,7 @@ fn desk_port<S: Alter, W: Write>(
         (state S.Store (connection session.old)) (state S.Store (connection session.new))) }
     ensures sat { IfOk result (λ status. must_reopen session.old ≡ false
         → Sits (state S.Store (connection session.old)) (state S.Store (connection session.new))) }
+    ensures out { IsOut output.old → IsOut output.new }
 {
     let line = address_line(work.rt.alloc(), work.port, work.key, work.page)?;
     let Ok(front) = format!(in work.rt.alloc(); "/{}", work.key) else {
@@ -250,6 +269,7 @@ fn desk_file<'a, S: Start, W: Write>(
         (written W.contents output.new ≡ written W.contents output.old) ⊎ (stop_status why ≡ 3)) }
     ensures unprinted { IsUnprinted ⟦<FileFrom<S> as Disk>⟧ (written W.contents output.old)
         (written W.contents output.new) result.1 }
+    ensures out { IsOut output.old → IsOut output.new }
     ensures left { OnFile ⟦<FileFrom<S> as Disk>⟧ (image_at S.Start) path.now StopsOld TellsSat
         (λ found after done. LeavesDesk found after done) closes_run result.0 result.1 }
 {
@@ -282,6 +302,7 @@ fn desk_keyed<'a, S: Start, W: Write>(
     ensures status { result.0 ≤ 4 }
     ensures unprinted { TellsFailure (streams.has_failed output.old)
         (streams.has_failed output.new) result.0 }
+    ensures out { IsOut output.old → IsOut output.new }
 {
     let (done, left) = desk_file(path, start, work, output);
     match done {
@@ -308,6 +329,7 @@ pub(crate) fn desk_told<'a, S: Start, W: Write>(
     ensures status { result.0 ≤ 4 }
     ensures unprinted { TellsFailure (streams.has_failed output.old)
         (streams.has_failed output.new) result.0 }
+    ensures out { IsOut output.old → IsOut output.new }
 {
     if !is_named(page) {
         return (

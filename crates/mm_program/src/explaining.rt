@@ -2,6 +2,7 @@
 
 ghost use Rattle.std.specs.Prelude.{◌≡◌, ◌≤◌};
 ghost use Rattle.mm_definitions.specs.Streams.{has_failed, written};
+ghost use Rattle.mm_core.specs.Writing.{IsOut};
 ghost use Rattle.mm_work.specs.Told.{TellsFailure};
 ghost use Rattle.mm_program.specs.Explained.{TellsExplained};
 
@@ -16,6 +17,7 @@ pub(crate) fn explain_told<W: Write>(answer: &str, output: &mut Io<W>) -> u8
         (written W.contents output.new) result }
     ensures status { result ≤ 4 }
     ensures unprinted { TellsFailure (has_failed output.old) (has_failed output.new) result }
+    ensures out { IsOut output.old → IsOut output.new }
 {
     match explanation_of(answer) {
         Some(text) => tell_bytes(output, text.as_bytes(), DONE),

@@ -1,8 +1,9 @@
 //! The package's file.
 
-ghost use Rattle.std.specs.Prelude.{◌≡◌, ◌++◌, codes, string_bytes, None, IfOk, IfErr};
+ghost use Rattle.std.specs.Prelude.{◌≡◌, ◌<◌, ◌↔◌, ◌++◌, codes, string_bytes, unwrap_or, None, IfOk, IfErr, IsTrue};
 ghost use Rattle.sqlite.specs.WalFiles.{image_at};
 ghost use Rattle.mm_definitions.specs.Streams.{written};
+ghost use Rattle.mm_core.specs.Writing.{IsOut};
 ghost use Rattle.mm_program.specs.Files.{StopsAny, StopsNew, StopsOld, StopsOn, WasBare, WorksOnFile, stop_for};
 ghost use Rattle.mm_program.specs.Worked.{closes_run};
 
@@ -44,15 +45,22 @@ fn journal_of(rt: &HostRuntime, path: &str) -> Result<String, Stop>
     }
 }
 
+/// Whether a file of this length, or one that is not there, holds a byte.
+fn holds_bytes(length: Option<u64>) -> bool
+    ensures { IsTrue result ↔ (0 < unwrap_or length 0) }
+{
+    length.unwrap_or(0) > 0
+}
+
 /// Whether neither the file nor its journal holds a byte.
 fn is_new(rt: &HostRuntime, path: &str) -> Result<bool, Stop>
     ensures { IfErr result StopsAny }
 {
-    if length_of(rt, path)?.unwrap_or(0) > 0 {
+    if holds_bytes(length_of(rt, path)?) {
         return Ok(false);
     }
     let journal = journal_of(rt, path)?;
-    Ok(length_of(rt, journal.as_str())?.unwrap_or(0) == 0)
+    Ok(!holds_bytes(length_of(rt, journal.as_str())?))
 }
 
 /// Why work on a file was not done, as it is told.
@@ -88,6 +96,7 @@ fn on_length<'a, S: Start, T: Copy, K: Works<Done = Result<T, Stop>>, W: Write>(
         (K.comes_to work.old) (K.tells work.old) (K.leaves work.old) K.closes
         (written W.contents output.old) (written W.contents output.new) result.0 result.1 }
     ensures bare { length ≡ None → WasBare ⟦<FileFrom<S> as Disk>⟧ (image_at S.Start) result.1 }
+    ensures out { IsOut output.old → IsOut output.new }
 {
     match on_file(rt, path, length, start, work, output) {
         Ok((opened, done)) => (done, Left::Worked(opened)),
@@ -107,6 +116,7 @@ pub fn on_new<'a, S: Start, T: Copy, K: Works<Done = Result<T, Stop>>, W: Write>
         (K.comes_to work.old) (K.tells work.old) (K.leaves work.old) K.closes
         (written W.contents output.old) (written W.contents output.new) result.0 result.1 }
     ensures bare { WasBare ⟦<FileFrom<S> as Disk>⟧ (image_at S.Start) result.1 }
+    ensures out { IsOut output.old → IsOut output.new }
 {
     match is_new(rt, path) {
         Ok(true) => on_length(rt, path, None, start, work, output),
@@ -123,9 +133,10 @@ pub fn on_old<'a, S: Start, T: Copy, K: Works<Done = Result<T, Stop>>, W: Write>
     work: &mut K,
     output: &mut Io<W>,
 ) -> Worked<'a, S, T>
-    ensures { WorksOnFile ⟦<FileFrom<S> as Disk>⟧ (image_at S.Start) path.now StopsOld
+    ensures worked { WorksOnFile ⟦<FileFrom<S> as Disk>⟧ (image_at S.Start) path.now StopsOld
         (K.comes_to work.old) (K.tells work.old) (K.leaves work.old) K.closes
         (written W.contents output.old) (written W.contents output.new) result.0 result.1 }
+    ensures out { IsOut output.old → IsOut output.new }
 {
     match length_of(rt, path) {
         Ok(None | Some(0)) => (

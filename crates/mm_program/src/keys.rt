@@ -1,6 +1,6 @@
 //! The key in a desk's address, which lets in.
 
-ghost use Rattle.std.specs.Prelude.{◌≡◌, ◌↔◌, IfErr, IfOk, IfSome, IsTrue, not, string_bytes};
+ghost use Rattle.std.specs.Prelude.{◌≡◌, ◌↔◌, IfErr, IfOk, IfSome, IsTrue, None, not, string_bytes};
 ghost use Rattle.std.specs.List.{list_any};
 ghost use Rattle.mm_program.specs.Desks.{IsKey};
 ghost use Rattle.mm_program.specs.Desks as desks;
@@ -50,9 +50,11 @@ pub(crate) fn is_key(text: &str) -> bool
     !has_other_byte(bytes)
 }
 
-/// The text where it is a key.
+/// The text, whole, where it is a key.
 fn checked(text: String) -> Option<String>
-    ensures { IfSome result (λ key. IsKey (string_bytes key)) }
+    ensures key { IfSome result (λ key. IsKey (string_bytes key)) }
+    ensures whole { IfSome result (λ key. key ≡ text) }
+    ensures none { result ≡ None → ¬ (IsKey (string_bytes text)) }
 {
     if is_key(text.as_str()) {
         Some(text)

@@ -3,6 +3,7 @@
 ghost use Rattle.std.specs.Prelude.{◌≡◌, ◌≤◌, ⊤, IfOk, None};
 ghost use Rattle.sqlite.specs.WalFiles.{image_at};
 ghost use Rattle.mm_definitions.specs.Streams.{has_failed, written};
+ghost use Rattle.mm_core.specs.Writing.{IsOut};
 ghost use Rattle.mm_work.specs.Told.{TellsFailure};
 ghost use Rattle.mm_program.specs.Files.{IsFew, OnFile, StopsOld};
 ghost use Rattle.mm_program.specs.Left.{LeavesImport, TellsImport};
@@ -212,6 +213,7 @@ pub(crate) fn import_and_tell<'a, S: Start, W: Write>(
         edition.now at }
     ensures status { result.0 ≤ 4 }
     ensures unprinted { TellsFailure (has_failed output.old) (has_failed output.new) result.0 }
+    ensures out { IsOut output.old → IsOut output.new }
 {
     let Some(name) = Name::read(edition) else {
         return (

@@ -1,6 +1,6 @@
 //! From one run of the program to the next, as laws: what is left of a file by one is what the next is opened on.
 
-ghost use Rattle.std.specs.Prelude.{◌≡◌, List, [], ℕ, ℤ, Result, Option, IfErr, IsTrue, Ok, true, ⊤};
+ghost use Rattle.std.specs.Prelude.{◌≡◌, List, [], ℕ, ℤ, Result, Option, IfErr, Ok, true, ⊤};
 ghost use Rattle.sqlite.specs.Tree.{Trees};
 ghost use Rattle.sqlite.specs.Recovery.{Image};
 ghost use Rattle.sqlite.specs.Files.{HoldsDatabase};
@@ -16,6 +16,8 @@ ghost use Rattle.mm_core.specs.Applied.{StandsForCurrent};
 ghost use Rattle.mm_definitions.specs.declared.answers.KitFault.{KitFault};
 ghost use Rattle.mm_definitions.specs.declared.answers.Staged.{Staged};
 ghost use Rattle.mm_kit.specs.Folders.{Files};
+ghost use Rattle.mm_files.specs.Files.{HoldNoByte};
+ghost use Rattle.mm_files.specs.Worked.{IsLeftOpen};
 ghost use Rattle.mm_work.specs.Told.{stop_status};
 ghost use Rattle.mm_work.specs.declared.stop.Stop.{Stop as Why};
 ghost use Rattle.mm_program.specs.Desks.{LeavesDesk, TellsSat};
@@ -103,23 +105,59 @@ pub fn what_is_not_closed_leads_on<'a, D: Disk>(_left: &Unclosed<'a, D>)
         (old new : Written) (why : Why)
         → OffClose D.Disk image path TellsRun
         (λ found after it. LeavesRun source moment found after old new it) closes_run why _left.now
-        → IsTrue _left.now.is_open → AreClean D.Disk _left.now.files.log _left.now.files.db
-        → outcomes D.Disk _left.now.files.log _left.now.files.db next
+        → IsLeftOpen D.Disk _left.now next
         → (done : Result ℕ Why) × (closes_run done ≡ true)
         × Leads (λ found after. LeavesRun source moment found after old new done) image next }
     ensures import { (image next : Image) (path name : Text) (told : Option Files) (why : Why)
         → OffClose D.Disk image path TellsImport (LeavesImport told name) closes_import why
         _left.now
-        → IsTrue _left.now.is_open → AreClean D.Disk _left.now.files.log _left.now.files.db
-        → outcomes D.Disk _left.now.files.log _left.now.files.db next
+        → IsLeftOpen D.Disk _left.now next
         → (done : Result (Result Staged KitFault) Why) × (closes_import done ≡ true)
         × Leads (λ found after. LeavesImport told name found after done) image next }
     ensures migration { (image next : Image) (path : Text) (why : Why)
         → OffClose D.Disk image path TellsMigrated LeavesMigrated closes_done why _left.now
-        → IsTrue _left.now.is_open → AreClean D.Disk _left.now.files.log _left.now.files.db
-        → outcomes D.Disk _left.now.files.log _left.now.files.db next
+        → IsLeftOpen D.Disk _left.now next
         → (done : Result (Unit {0}) Why) × (closes_done done ≡ true)
         × Leads (λ found after. LeavesMigrated found after done) image next }
+    ensures making { (image next : Image) (path : Text) (why : Why) → HoldNoByte image
+        → OffClose D.Disk image path (λ found done. ⊤) LeavesMade closes_done why _left.now
+        → IsLeftOpen D.Disk _left.now next
+        → ∥ LivesOn next opening [] ∥₁ }
+    ensures desk { (image next : Image) (path : Text) (why : Why)
+        → OffClose D.Disk image path TellsSat
+        (λ found after it. LeavesDesk found after it) closes_run why
+        _left.now
+        → IsLeftOpen D.Disk _left.now next
+        → (done : Result ℕ Why) × (closes_run done ≡ true)
+        × Leads (λ found after. LeavesDesk found after done) image next }
+    ensures check { (image next : Image) (path : Text) (why : Why)
+        → OffClose D.Disk image path TellsChecked
+        (λ found after it. LeavesSame found after) closes_done why
+        _left.now
+        → IsLeftOpen D.Disk _left.now next
+        → (done : Result (Unit {0}) Why) × (closes_done done ≡ true)
+        × Leads LeavesSame image next }
+    ensures list { (image next : Image) (path : Text) (old new : Written) (why : Why)
+        → OffClose D.Disk image path (λ found it. TellsListing found old new it)
+        (λ found after it. LeavesSame found after) closes_done why
+        _left.now
+        → IsLeftOpen D.Disk _left.now next
+        → (done : Result (Unit {0}) Why) × (closes_done done ≡ true)
+        × Leads LeavesSame image next }
+    ensures show { (image next : Image) (path table : Text) (id : Option ℤ) (old new : Written) (why : Why)
+        → OffClose D.Disk image path (λ found it. TellsShown table id found old new it)
+        (λ found after it. LeavesSame found after) closes_run why
+        _left.now
+        → IsLeftOpen D.Disk _left.now next
+        → (done : Result ℕ Why) × (closes_run done ≡ true)
+        × Leads LeavesSame image next }
+    ensures serve { (image next : Image) (path : Text) (why : Why)
+        → OffClose D.Disk image path TellsServed
+        (λ found after it. LeavesSame found after) closes_run why
+        _left.now
+        → IsLeftOpen D.Disk _left.now next
+        → (done : Result ℕ Why) × (closes_run done ≡ true)
+        × Leads LeavesSame image next }
 {}
 
 /// Where a package was made in files that held no byte, each thing that a crash, or none, may leave of them holds the

@@ -3,6 +3,7 @@
 ghost use Rattle.std.specs.Prelude.{◌≤◌, IfErr};
 ghost use Rattle.sqlite.specs.WalFiles.{image_at};
 ghost use Rattle.mm_definitions.specs.Streams.{has_failed, written};
+ghost use Rattle.mm_core.specs.Writing.{IsOut};
 ghost use Rattle.mm_work.specs.Told.{TellsFailure};
 ghost use Rattle.mm_program.specs.Files.{OnFile, StopsOld};
 ghost use Rattle.mm_program.specs.Left.{LeavesMigrated, TellsMigrated};
@@ -71,6 +72,7 @@ pub(crate) fn migrate_told<'a, S: Start, W: Write>(
         (written W.contents output.old) (written W.contents output.new) result.0 result.1 }
     ensures status { result.0 ≤ 4 }
     ensures unprinted { TellsFailure (has_failed output.old) (has_failed output.new) result.0 }
+    ensures out { IsOut output.old → IsOut output.new }
 {
     let (outcome, left) = migrate_file(rt, path, start);
     (tell_migration(output, outcome), left)

@@ -3,6 +3,7 @@
 ghost use Rattle.std.specs.Prelude.{◌≡◌, ◌≤◌, false};
 ghost use Rattle.sqlite.specs.WalFiles.{image_at};
 ghost use Rattle.mm_definitions.specs.Streams.{has_failed, written};
+ghost use Rattle.mm_core.specs.Writing.{IsOut};
 ghost use Rattle.mm_files.specs.Worked.{IsUnprinted};
 ghost use Rattle.mm_work.specs.Told.{TellsFailure};
 ghost use Rattle.mm_program.specs.Files.{OnFile, StopsOld};
@@ -71,6 +72,7 @@ fn show_file<'a, S: Start, W: Write>(
         (written W.contents output.new) result.0 }
     ensures unprinted { IsUnprinted ⟦<FileFrom<S> as Disk>⟧ (written W.contents output.old)
         (written W.contents output.new) result.1 }
+    ensures out { IsOut output.old → IsOut output.new }
     ensures left { OnFile ⟦<FileFrom<S> as Disk>⟧ (image_at S.Start) path.now StopsOld
         (λ found done. TellsShown table.now id found (written W.contents output.old)
         (written W.contents output.new) done)
@@ -95,6 +97,7 @@ pub(crate) fn show_told<'a, S: Start, W: Write>(
         table.now id }
     ensures status { result.0 ≤ 4 }
     ensures unprinted { TellsFailure (has_failed output.old) (has_failed output.new) result.0 }
+    ensures out { IsOut output.old → IsOut output.new }
 {
     let Some(name) = Name::read(table) else {
         return (

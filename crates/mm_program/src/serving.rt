@@ -4,6 +4,7 @@ ghost use Rattle.std.specs.Prelude.{◌≡◌, ◌≤◌, ◌⊎◌, IfErr, IfOk
 ghost use Rattle.mm_definitions.specs.Faults as faults;
 ghost use Rattle.mm_definitions.specs.Streams.{written};
 ghost use Rattle.mm_definitions.specs.Streams as streams;
+ghost use Rattle.mm_core.specs.Writing.{IsOut};
 ghost use Rattle.mm_files.specs.Worked.{IsUnprinted};
 ghost use Rattle.mm_work.specs.Told.{TellsFailure, stop_status};
 ghost use Rattle.sqlite.specs.Held.{state};
@@ -79,6 +80,7 @@ fn serve_port<S: Alter, W: Write>(
     ensures unbound { IfErr result (λ why. why ≡ Stop.Fault faults.input) }
     ensures kept { LeavesPackage
         (state S.Store (connection session.old)) (state S.Store (connection session.new)) }
+    ensures out { IsOut output.old → IsOut output.new }
 {
     let Ok(listener) = TcpListener::bind(rt, (Ipv4Addr::LOCALHOST, port)) else {
         return Err(Stop::Fault(Fault::INPUT));
@@ -158,6 +160,7 @@ fn serve_file<'a, S: Start, W: Write>(
         (written W.contents output.new ≡ written W.contents output.old) ⊎ (stop_status why ≡ 3)) }
     ensures unprinted { IsUnprinted ⟦<FileFrom<S> as Disk>⟧ (written W.contents output.old)
         (written W.contents output.new) result.1 }
+    ensures out { IsOut output.old → IsOut output.new }
     ensures left { OnFile ⟦<FileFrom<S> as Disk>⟧ (image_at S.Start) path.now StopsOld TellsServed
         (λ found after done. LeavesSame found after) closes_run result.0 result.1 }
 {
@@ -180,6 +183,7 @@ pub(crate) fn serve_told<'a, S: Start, W: Write>(
     ensures status { result.0 ≤ 4 }
     ensures unprinted { TellsFailure (streams.has_failed output.old)
         (streams.has_failed output.new) result.0 }
+    ensures out { IsOut output.old → IsOut output.new }
 {
     let (done, left) = serve_file(rt, path, start, port, count, output);
     match done {

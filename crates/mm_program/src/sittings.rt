@@ -1,9 +1,12 @@
 //! Requests that a desk answers one after another.
 
-ghost use Rattle.std.specs.Prelude.{◌≡◌, ◌⊎◌, List, false};
+ghost use Rattle.std.specs.Prelude.{◌≡◌, ◌⊎◌, ◌∷◌, [], List, Ok, false, true};
 ghost use Rattle.mm_definitions.specs.Streams.{written};
+ghost use Rattle.mm_core.specs.Writing.{IsOut};
 ghost use Rattle.mm_desk.specs.Exchanges.{IsDeskTurn};
 ghost use Rattle.mm_desk.specs.Sittings.{Sat, Visit};
+ghost use Rattle.mm_desk.specs.Told.{AddsTo, AreAnswered, AreVisitsOf, IsAnsweredAs, Told};
+ghost use Rattle.mm_program.specs.Attended.{AreTold, TellsTurn};
 ghost use Rattle.mm_program.specs.Desks.{IsAttended, PrintsTurn};
 
 use mm_definitions::answers::{RunFault, Tally};
@@ -25,6 +28,7 @@ pub enum Turn {
 fn next_of<D: Desk>(desk: &D) -> Turn
     ensures ends { (result ≡ Turn.Next) ⊎ (result ≡ Turn.Last 3) }
     ensures goes { result ≡ Turn.Next → D.Apply.has_failed desk.now ≡ false }
+    ensures over { result ≡ Turn.Last 3 → D.Apply.has_failed desk.now ≡ true }
 {
     if desk.is_over() {
         return Turn::Last(FAULT);
@@ -38,6 +42,10 @@ fn tell_list<D: Desk, W: Write>(desk: &D, output: &mut Io<W>, run: Result<Tally,
     ensures told { PrintsTurn (written W.contents output.old) (written W.contents output.new)
         result }
     ensures goes { result ≡ Turn.Next → D.Apply.has_failed desk.now ≡ false }
+    ensures over { D.Apply.has_failed desk.now ≡ true → result ≡ Turn.Last 3 }
+    ensures out { IsOut output.old → IsOut output.new }
+    ensures tells { TellsTurn (D.Apply.has_failed desk.now) (Ok (Done.Ran run))
+        (written W.contents output.old) (written W.contents output.new) result }
 {
     match run {
         Ok(_) => next_of(desk),
@@ -60,8 +68,15 @@ fn answer_and_tell<D: Desk, C: Comes<D>, W: Write>(
     ensures one { IsDeskTurn D.Apply desk.old desk.new }
     ensures goes { result ≡ Turn.Next → D.Apply.has_failed desk.old ≡ false
         → D.Apply.has_failed desk.new ≡ false }
+    ensures over { D.Apply.has_failed desk.old ≡ false → D.Apply.has_failed desk.new ≡ true
+        → result ≡ Turn.Last 3 }
+    ensures out { IsOut output.old → IsOut output.new }
     ensures told { PrintsTurn (written W.contents output.old) (written W.contents output.new)
         result }
+    ensures answered { (t : Told) × AddsTo (C.told comes.old) (C.told comes.new) (t ∷ [])
+        × IsAnsweredAs D.Viewer D.Apply t desk.old desk.new
+        × TellsTurn (D.Apply.has_failed desk.new) t.result
+        (written W.contents output.old) (written W.contents output.new) result }
 {
     let done = match comes.answer_next(alloc, desk) {
         Ok(done) => done,
@@ -94,6 +109,15 @@ pub fn attend<D: Desk, C: Comes<D>, W: Write>(
         → (visits : List Visit) × Sat D.Apply desk.old visits desk.new }
     ensures told { IsAttended count (written W.contents output.old)
         (written W.contents output.new) result }
+    ensures over { D.Apply.has_failed desk.old ≡ false → D.Apply.has_failed desk.new ≡ true
+        → result ≡ 3 }
+    ensures out { IsOut output.old → IsOut output.new }
+    ensures answered { (all : List Told) × AddsTo (C.told comes.old) (C.told comes.new) all
+        × AreAnswered D.Viewer D.Apply desk.old all desk.new
+        × AreTold count all (D.Apply.has_failed desk.new) (written W.contents output.old)
+        (written W.contents output.new) result
+        × (D.Apply.has_failed desk.old ≡ false → (visits : List Visit)
+        × Sat D.Apply desk.old visits desk.new × AreVisitsOf all visits) }
 {
     for answered in 0..count {
         match answer_and_tell(alloc, desk, comes, output) {

@@ -5,7 +5,10 @@ ghost use Rattle.sqlite.specs.WalFiles.{image_at};
 ghost use Rattle.mm_definitions.specs.Streams.{has_failed, inside, written};
 ghost use Rattle.clap.specs.Words.{kind_of};
 ghost use Rattle.mm_arguments.specs.Requests as arguments;
+ghost use Rattle.mm_core.specs.Writing.{IsOut};
 ghost use Rattle.mm_files.specs.Worked.{IsUnprinted};
+ghost use Rattle.mm_files.specs.declared.left.Left as lefts;
+ghost use Rattle.sqlite_disk.specs.declared.start.Wary.{Wary};
 ghost use Rattle.mm_work.specs.Told.{TellsFailure};
 ghost use Rattle.mm_program.specs.Files.{OnFile, StopsNew, StopsOld, WasBare};
 ghost use Rattle.mm_program.specs.Left.{LeavesMade, LeavesRun, TellsRun};
@@ -127,6 +130,7 @@ fn run_file<'a, S: Start, R: Read, W: Write>(
     ensures run { RunEnds (written W.contents output.old) (written W.contents output.new) result.0 }
     ensures unprinted { IsUnprinted ⟦<FileFrom<S> as Disk>⟧ (written W.contents output.old)
         (written W.contents output.new) result.1 }
+    ensures out { IsOut output.old → IsOut output.new }
     ensures left { OnFile ⟦<FileFrom<S> as Disk>⟧ (image_at S.Start) path.now StopsOld TellsRun
         (λ found after done. LeavesRun (R.remaining (inside input.old)) at found after
         (written W.contents output.old) (written W.contents output.new) done)
@@ -146,6 +150,7 @@ fn init_told<'a, S: Start, W: Write>(
         (written W.contents output.old) (written W.contents output.new) result.0 result.1 }
     ensures status { result.0 ≤ 4 }
     ensures unprinted { TellsFailure (has_failed output.old) (has_failed output.new) result.0 }
+    ensures out { IsOut output.old → IsOut output.new }
 {
     let (outcome, left) = init_file(rt, path, start);
     (tell_init(output, outcome), left)
@@ -167,6 +172,7 @@ fn run_told<'a, S: Start, R: Read, W: Write>(
         (R.remaining (inside input.old)) at }
     ensures status { result.0 ≤ 4 }
     ensures unprinted { TellsFailure (has_failed output.old) (has_failed output.new) result.0 }
+    ensures out { IsOut output.old → IsOut output.new }
 {
     let moment = match moment_or_now(rt, at) {
         Now::At(moment) => moment,
@@ -196,6 +202,7 @@ fn tell_words<W: Write>(output: &mut Io<W>, error: clap::Error) -> u8
         (written W.contents output.new) result }
     ensures status { result ≤ 4 }
     ensures unprinted { TellsFailure (has_failed output.old) (has_failed output.new) result }
+    ensures out { IsOut output.old → IsOut output.new }
 {
     match status_of(&error) {
         Some(status) => tell_text(output, error, status),
@@ -219,6 +226,7 @@ pub fn program_on<'a, S: Start, R: Read, W: Write>(
         (written W.contents output.old) (written W.contents output.new) result.0 result.1 }
     ensures status { result.0 ≤ 4 }
     ensures unprinted { TellsFailure (has_failed output.old) (has_failed output.new) result.0 }
+    ensures out { IsOut output.old → IsOut output.new }
 {
     match read_arguments(rt.alloc(), words) {
         Ok(Request::Init { file }) => init_told(rt, file, start, output),
@@ -265,8 +273,13 @@ fn status_on<S: Start, R: Read, W: Write>(
     requires { S.Start.is_mixing ≡ false }
     ensures told { PrintsWords (map (λ word. word.now) words.entry.now)
         (written W.contents output.old) (written W.contents output.new) result }
+    ensures all { (left : lefts.Left _ S _)
+        × TellsWords {S = S} ⟦<FileFrom<S> as Disk>⟧ (image_at S.Start) (R.remaining (inside input.old))
+        (map (λ word. word.now) words.entry.now) (written W.contents output.old)
+        (written W.contents output.new) result left }
     ensures status { result ≤ 4 }
     ensures unprinted { TellsFailure (has_failed output.old) (has_failed output.new) result }
+    ensures out { IsOut output.old → IsOut output.new }
 {
     let (status, left) = program_on(rt, words, start, input, output);
     left.let_go();
@@ -283,8 +296,13 @@ pub fn program<R: Read, W: Write>(
 ) -> u8
     ensures told { PrintsWords (map (λ word. word.now) words.entry.now)
         (written W.contents output.old) (written W.contents output.new) result }
+    ensures all { (left : lefts.Left _ Wary _)
+        × TellsWords {S = Wary} ⟦<FileFrom<Wary> as Disk>⟧ (image_at ⟦<Wary as Start>⟧) (R.remaining (inside input.old))
+        (map (λ word. word.now) words.entry.now) (written W.contents output.old)
+        (written W.contents output.new) result left }
     ensures status { result ≤ 4 }
     ensures unprinted { TellsFailure (has_failed output.old) (has_failed output.new) result }
+    ensures out { IsOut output.old → IsOut output.new }
 {
     status_on(rt, words, Wary, input, output)
 }

@@ -137,6 +137,15 @@ module _ {V N : Type 0} {takes : V → Row → V → Result Bool Fault → Type 
   pub kept : name w ≡ name v
   kept = elim it.visits.1 as (λ _. name w ≡ name v) [ inl all ↦ keeps_all v w it.visits.0 all | inr last ↦ keeps last.0 w last.1 result last.3 ∙ keeps_all v last.0 it.visits.0 last.2 ]
 
+-- what each step keeps is kept
+module _ {V : Type 0} {takes : V → Row → V → Result Bool Fault → Type 0} {sql : List ℕ} {params : Row} {old new : State} {v w : V} {result : Result Bool Fault} (it : IsWalk takes sql params old new v w result) (Holds : V → Type 0) (keeps : (v u : V) (row : Row) (result : Result Bool Fault) → takes v row u result → Holds v → Holds u) where
+  holds_all : (v w : V) (rows : List Row) → TakesRows takes v rows w → Holds v → Holds w
+  holds_all v w [] same held = subst Holds same held
+  holds_all v w (r ∷ rows) (u, step, more) held = holds_all u w rows more (keeps v u r (Ok true) step held)
+
+  pub still : Holds v → Holds w
+  still held = elim it.visits.1 as (λ _. Holds w) [ inl all ↦ holds_all v w it.visits.0 all held | inr last ↦ keeps last.0 w last.1 result last.3 (holds_all v last.0 it.visits.0 last.2 held) ]
+
 -- ---- one text after another
 
 module _ (profile : Profile) (first second : Package → List ℕ) (old mid new : State) (held between holds : Option (List ℕ)) (before middle failed : Bool) where

@@ -2,6 +2,7 @@
 
 ghost use Rattle.std.specs.Prelude.{◌≡◌, false};
 ghost use Rattle.mm_definitions.specs.Streams.{written};
+ghost use Rattle.mm_io.specs.Sending.{IsOut};
 ghost use Rattle.mm_reads.specs.Listing.{editions, listing, table_lines};
 ghost use Rattle.mm_reads.specs.Writing.{Lists, SendsLine};
 
@@ -15,8 +16,9 @@ use std::io::Write;
 
 /// Writes a line, and goes on.
 fn send_line<W: Write>(output: &mut Io<W>, line: &[u8]) -> Result<bool, Fault>
-    ensures { SendsLine (written W.contents output.old) (written W.contents output.new)
+    ensures sent { SendsLine (written W.contents output.old) (written W.contents output.new)
         line.now result }
+    ensures out { IsOut output.new }
 {
     match send(output, line) {
         Sent::Flushed => Ok(true),
@@ -33,11 +35,13 @@ struct TableLines<'a, W> {
 
 impl<W: Write> Visitor for TableLines<'_, W> {
     ghost use Rattle.mm_definitions.specs.Streams.{written};
+    ghost use Rattle.mm_io.specs.Sending.{IsOut};
     ghost use Rattle.mm_reads.specs.ShownLines.{ShowsTable};
     ghost use Rattle.mm_reads.specs.Writing.{TakesLine};
 
     ghost takes = { λ old row new result. (new.output.ghost_name ≡ old.output.ghost_name)
-        × TakesLine ShowsTable (written W.contents old.output.now) (written W.contents new.output.now) row result };
+        × TakesLine ShowsTable (written W.contents old.output.now) (written W.contents new.output.now) row result
+        × (IsOut old.output.now → IsOut new.output.now) };
 
     fn take(&mut self, row: &Row) -> Result<bool, Fault> {
         let line = table_in(row)?;
@@ -53,11 +57,13 @@ struct EditionLines<'a, W> {
 
 impl<W: Write> Visitor for EditionLines<'_, W> {
     ghost use Rattle.mm_definitions.specs.Streams.{written};
+    ghost use Rattle.mm_io.specs.Sending.{IsOut};
     ghost use Rattle.mm_reads.specs.ShownLines.{ShowsEdition};
     ghost use Rattle.mm_reads.specs.Writing.{TakesLine};
 
     ghost takes = { λ old row new result. (new.output.ghost_name ≡ old.output.ghost_name)
-        × TakesLine ShowsEdition (written W.contents old.output.now) (written W.contents new.output.now) row result };
+        × TakesLine ShowsEdition (written W.contents old.output.now) (written W.contents new.output.now) row result
+        × (IsOut old.output.now → IsOut new.output.now) };
 
     fn take(&mut self, row: &Row) -> Result<bool, Fault> {
         let line = edition_in(row)?;
@@ -75,6 +81,7 @@ fn show_tables<S: Alter, W: Write>(
     ensures mode { conn.new.in_transaction ≡ false }
     ensures listed { Lists S.Store conn.old conn.new table_lines
         (written W.contents lines.old.output.now) (written W.contents lines.new.output.now) result }
+    ensures out { IsOut lines.old.output.now → IsOut lines.new.output.now }
 {
     walk(
         conn,
@@ -94,6 +101,7 @@ fn list_tables<S: Alter, W: Write>(
     ensures mode { conn.new.in_transaction ≡ false }
     ensures listed { Lists S.Store conn.old conn.new table_lines (written W.contents output.old)
         (written W.contents output.new) result }
+    ensures out { IsOut output.old → IsOut output.new }
 {
     let mut lines = TableLines { output };
     let shown = show_tables(conn, &mut lines);
@@ -112,6 +120,7 @@ fn show_editions<S: Alter, W: Write>(
     ensures mode { conn.new.in_transaction ≡ false }
     ensures listed { Lists S.Store conn.old conn.new editions
         (written W.contents lines.old.output.now) (written W.contents lines.new.output.now) result }
+    ensures out { IsOut lines.old.output.now → IsOut lines.new.output.now }
 {
     walk(
         conn,
@@ -131,6 +140,7 @@ fn list_editions<S: Alter, W: Write>(
     ensures mode { conn.new.in_transaction ≡ false }
     ensures listed { Lists S.Store conn.old conn.new editions (written W.contents output.old)
         (written W.contents output.new) result }
+    ensures out { IsOut output.old → IsOut output.new }
 {
     let mut lines = EditionLines { output };
     let shown = show_editions(conn, &mut lines);
@@ -152,6 +162,7 @@ pub fn list<S: Alter, W: Write>(conn: &mut Connection<S>, output: &mut Io<W>) ->
     ensures mode { conn.new.in_transaction ≡ false }
     ensures listed { Lists S.Store conn.old conn.new listing (written W.contents output.old)
         (written W.contents output.new) result }
+    ensures out { IsOut output.old → IsOut output.new }
 {
     list_tables(conn, output)?;
     list_editions(conn, output)

@@ -3,6 +3,7 @@
 ghost use Rattle.std.specs.Prelude.{map};
 ghost use Rattle.mm_definitions.specs.Streams.{written};
 ghost use Rattle.mm_reads.specs.RowLists.{numbered_told};
+ghost use Rattle.mm_reads.specs.Writing.{IsOut};
 ghost use Rattle.mm_show.specs.Records.{row_records};
 ghost use Rattle.mm_show.specs.Showing.{IsTextPrinted};
 
@@ -22,8 +23,9 @@ pub(crate) fn print_rows<W: Write>(
     rows: &[(i64, Row)],
     output: &mut Io<W>,
 ) -> Result<(), Fault>
-    ensures { IsTextPrinted (written W.contents output.old) (written W.contents output.new)
+    ensures printed { IsTextPrinted (written W.contents output.old) (written W.contents output.new)
         (row_records table.now (map numbered_told rows.now)) result }
+    ensures out { IsOut output.old → IsOut output.new }
 {
     let Ok(text) = records_text(alloc, table.as_str(), rows) else {
         return Err(Fault::MEMORY);

@@ -11,7 +11,7 @@ ghost use Rattle.mm_definitions.specs.Streams.{has_failed, written};
 ghost use Rattle.mm_definitions.specs.Faults.{IsStoreFault};
 ghost use Rattle.mm_reads.specs.RowLists.{lists_rows, first_rows, numbered_told};
 ghost use Rattle.mm_reads.specs.Viewers.{IsOn, IsViewFault, LeavesPackage};
-ghost use Rattle.mm_reads.specs.Writing.{ListingTellsWriter};
+ghost use Rattle.mm_reads.specs.Writing.{IsOut, ListingTellsWriter};
 ghost use Rattle.mm_show.specs.Showing.{ShowsRecords, table_refusal};
 ghost use Rattle.mm_show.specs.Turns.{PrintsFrom, ShowsFirst, TellsNext, TurnsOn};
 
@@ -65,6 +65,7 @@ fn print_and_read<D: Desk, W: Write>(
         → TurnsOn p table.now first (written W.contents output.old) (written W.contents output.new)
         result }
     ensures working { OnOk result (has_failed output.new ≡ has_failed output.old) }
+    ensures out { IsOut output.old → IsOut output.new }
     ensures writer { IfErr result (λ fault. D.Viewer.has_failed desk.old ≡ false
         → ListingTellsWriter (has_failed output.old) (has_failed output.new) (Err fault)) }
 {
@@ -92,6 +93,7 @@ fn print_from<D: Desk, W: Write>(
         → PrintsFrom p table.now first (written W.contents output.old)
         (written W.contents output.new) result }
     ensures working { OnOk result (has_failed output.new ≡ has_failed output.old) }
+    ensures out { IsOut output.old → IsOut output.new }
     ensures writer { IfErr result (λ fault. D.Viewer.has_failed desk.old ≡ false
         → ListingTellsWriter (has_failed output.old) (has_failed output.new) (Err fault)) }
 {
@@ -123,6 +125,7 @@ fn show_first<W: Write>(
     ensures shown { ShowsFirst table.now id (map numbered_told rows.now) (written W.contents output.old)
         (written W.contents output.new) result }
     ensures untold { IfOk result (λ why. IfSome why (λ number. output.new ≡ output.old)) }
+    ensures out { IsOut output.old → IsOut output.new }
 {
     if rows.is_empty() {
         return Ok(Some(Reason::NO_ROW));
@@ -180,6 +183,7 @@ fn show_found<D: Desk, W: Write>(
         result }
     ensures untold { IfOk result (λ why. IfSome why (λ number. output.new ≡ output.old)) }
     ensures working { OnOk result (has_failed output.new ≡ has_failed output.old) }
+    ensures out { IsOut output.old → IsOut output.new }
     ensures writer { IfErr result (λ fault. D.Viewer.has_failed desk.old ≡ false
         → ListingTellsWriter (has_failed output.old) (has_failed output.new) (Err fault)) }
 {
@@ -215,6 +219,7 @@ pub fn show_rows<D: Desk, W: Write>(
         result }
     ensures untold { IfOk result (λ why. IfSome why (λ number. output.new ≡ output.old)) }
     ensures working { OnOk result (has_failed output.new ≡ has_failed output.old) }
+    ensures out { IsOut output.old → IsOut output.new }
     ensures writer { IfErr result (λ fault. D.Viewer.has_failed desk.old ≡ false
         → ListingTellsWriter (has_failed output.old) (has_failed output.new) (Err fault)) }
     ensures ended { D.Viewer.has_failed desk.old ≡ true

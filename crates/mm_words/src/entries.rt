@@ -30,8 +30,8 @@ To do: mend the record. `mmpkg help run` has the fields of each; `mmpkg run --wo
 
 An id is from 1 to 9007199254740992, a zoom from 0 to 30, an amount within 1000000000000000 either way, a coordinate
 within 100000000000000 micrometres, a pixel's side from 1 to 1000000000000. A title or note has at most 1000 bytes, a
-tile 1 to 1048576, a media item 1 to 4194304; a text has no byte 0, an identifier none below 0x20, and a content type
-is two words round a `/`, without parameters. Of a kit: a file is empty or too long, or its list is.
+tile 1 to 1048576, a media item 1 to 4194304. A text has no byte 0, an identifier none below 0x20 and no 0x7f; a
+content type is two words round a `/`, without parameters. Of a kit: a file is empty or too long, or its list is.
 Told alone: the clock is outside the years that a moment has (give `--at`), or MMPKG_KEY is no key.
 
 To do: mend the record or the file. A photo that is too large has to be made smaller, a tile cut into several.

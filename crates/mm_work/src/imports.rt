@@ -5,6 +5,7 @@ ghost use Rattle.sqlite.specs.Held.{state};
 ghost use Rattle.sqlite.specs.State.{HasCleanDisk};
 ghost use Rattle.mm_definitions.specs.Bounds.{current};
 ghost use Rattle.mm_definitions.specs.Streams.{written};
+ghost use Rattle.mm_io.specs.Sending.{IsOut};
 ghost use Rattle.mm_store.specs.Stands.{IsSettled};
 ghost use Rattle.mm_core.specs.Adopted.{WasAdopted};
 ghost use Rattle.mm_core.specs.Applied.{StandsForCurrent};
@@ -93,8 +94,9 @@ fn refused_line(piece: u32, number: Reason) -> ArrayVec<u8, 64>
 
 /// Prints the answer to a kit: status 0 where it is complete, and 1 where it is refused.
 fn tell_staged<W: Write>(output: &mut Io<W>, staged: Staged) -> u8
-    ensures { IsTold (written W.contents output.old) (written W.contents output.new)
+    ensures told { IsTold (written W.contents output.old) (written W.contents output.new)
         (staged_text staged) (staged_status staged) result }
+    ensures out { IsOut output.new }
 {
     match staged {
         Staged::Complete(count) => {
@@ -110,8 +112,9 @@ fn tell_staged<W: Write>(output: &mut Io<W>, staged: Staged) -> u8
 
 /// Prints what an import came to: status 0 where it is complete, 1 where it is refused, 3 for a fault.
 pub fn tell_import<W: Write>(output: &mut Io<W>, import: Import) -> u8
-    ensures { IsTold (written W.contents output.old) (written W.contents output.new)
+    ensures told { IsTold (written W.contents output.old) (written W.contents output.new)
         (kit_text import) (kit_status import) result }
+    ensures out { IsOut output.new }
 {
     match import {
         Ok(staged) => tell_staged(output, staged),

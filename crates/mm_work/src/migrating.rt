@@ -3,6 +3,7 @@
 ghost use Rattle.std.specs.Prelude.{◌≡◌, Ok, false, IfOk, IfErr};
 ghost use Rattle.sqlite.specs.Held.{state};
 ghost use Rattle.mm_definitions.specs.Streams.{written};
+ghost use Rattle.mm_io.specs.Sending.{IsOut};
 ghost use Rattle.mm_core.specs.Migrations.{IsMigration};
 ghost use Rattle.mm_work.specs.Migrated.{IsUnmigrated, migrate_status, migrate_text};
 ghost use Rattle.mm_work.specs.Told.{IsTold};
@@ -37,8 +38,9 @@ pub fn migrate_package<S: Alter + Drop>(
 
 /// Prints what migrating a package came to.
 pub fn tell_migration<W: Write>(output: &mut Io<W>, outcome: Result<(), Stop>) -> u8
-    ensures { IsTold (written W.contents output.old) (written W.contents output.new)
+    ensures told { IsTold (written W.contents output.old) (written W.contents output.new)
         (migrate_text outcome) (migrate_status outcome) result }
+    ensures out { IsOut output.new }
 {
     match outcome {
         Ok(()) => tell_bytes(output, b"migrate ok\n", DONE),

@@ -5,6 +5,7 @@ ghost use Rattle.sqlite.specs.Held.{state};
 ghost use Rattle.sqlite.specs.State.{HasCleanDisk};
 ghost use Rattle.mm_definitions.specs.Bounds.{current};
 ghost use Rattle.mm_definitions.specs.Streams.{has_failed, inside, written};
+ghost use Rattle.mm_io.specs.Sending.{IsOut};
 ghost use Rattle.mm_store.specs.Stands.{IsSettled};
 ghost use Rattle.mm_core.specs.Runs.{OnRun};
 ghost use Rattle.mm_core.specs.Adopted.{IsAdopted, WasAdopted};
@@ -96,6 +97,7 @@ fn run_session<S: Alter, R: Read, W: Write>(
         (written W.contents output.old) (written W.contents output.new) result) }
     ensures kept { KeepsRules (state S.Store (connection session.old))
         (state S.Store (connection session.new)) }
+    ensures out { IsOut output.old → IsOut output.new }
 {
     match session.run_list(input, output, at) {
         Ok(tally) if tally.refused == 0 => DONE,
@@ -133,6 +135,7 @@ pub fn run_package<S: Alter + Drop, R: Read, W: Write>(
     ensures handed_back { IfErr result (λ e. e.0.in_transaction ≡ false) }
     ensures unread { IfErr result (λ e. input.new ≡ input.old) }
     ensures unused { IfErr result (λ e. output.new ≡ output.old) }
+    ensures out { IsOut output.old → IsOut output.new }
 {
     let mut session = adopt_package(alloc, conn)?;
     let status = run_session(&mut session, input, output, at);

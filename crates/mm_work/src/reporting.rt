@@ -3,6 +3,7 @@
 ghost use Rattle.std.specs.Prelude.{◌≡◌, ◌⊎◌, false, IfOk, IfErr, OnOk};
 ghost use Rattle.sqlite.specs.Held.{state};
 ghost use Rattle.mm_definitions.specs.Streams.{has_failed, inside, written};
+ghost use Rattle.mm_io.specs.Sending.{IsOut};
 ghost use Rattle.mm_core.specs.Adopted.{IsAdopted};
 ghost use Rattle.mm_work.specs.Declined.{IsDeclined};
 ghost use Rattle.mm_work.specs.Told.{IsTold, stop_status};
@@ -48,6 +49,7 @@ pub fn list_package<S: Alter + Drop, W: Write>(
         (written W.contents output.old) (written W.contents output.new) e.1) }
     ensures handed_back { IfErr result (λ e. e.0.in_transaction ≡ false) }
     ensures stopped { IfErr result (λ e. (output.new ≡ output.old) ⊎ (stop_status e.1 ≡ 3)) }
+    ensures out { IsOut output.old → IsOut output.new }
 {
     let mut session = adopt_package(alloc, conn)?;
     match session.list(output) {
@@ -58,8 +60,9 @@ pub fn list_package<S: Alter + Drop, W: Write>(
 
 /// Prints what checking a package came to.
 pub fn tell_check<W: Write>(output: &mut Io<W>, outcome: Result<(), Stop>) -> u8
-    ensures { IsTold (written W.contents output.old) (written W.contents output.new)
+    ensures told { IsTold (written W.contents output.old) (written W.contents output.new)
         (check_text outcome) (check_status outcome) result }
+    ensures out { IsOut output.new }
 {
     match outcome {
         Ok(()) => tell_bytes(output, b"package ok\n", DONE),

@@ -4,6 +4,7 @@ ghost use Rattle.std.specs.Prelude.{◌≡◌, ◌≤◌, ◌⊎◌, Err, false,
 ghost use Rattle.sqlite.specs.Held.{state};
 ghost use Rattle.mm_definitions.specs.Package.{Package};
 ghost use Rattle.mm_definitions.specs.Streams.{has_failed, inside, written};
+ghost use Rattle.mm_io.specs.Sending.{IsOut};
 ghost use Rattle.mm_core.specs.Viewers.{IsOn, LeavesPackage};
 ghost use Rattle.mm_core.specs.Writing.{ListingTellsWriter};
 ghost use Rattle.mm_work.specs.Shown.{IsShowing, IsUnshown, TellsReason, TellsShownRows};
@@ -25,8 +26,9 @@ use std::io::Write;
 
 /// Prints why there is nothing to show.
 fn tell_reason<W: Write>(output: &mut Io<W>, reason: Reason) -> Result<u8, Fault>
-    ensures { TellsReason (written W.contents output.old) (written W.contents output.new) reason
-        result }
+    ensures told { TellsReason (written W.contents output.old) (written W.contents output.new)
+        reason result }
+    ensures out { IsOut output.new }
 {
     let line = numbered_line(b"refused ", reason.get());
     match send(output, line.as_slice()) {
@@ -53,6 +55,7 @@ fn rows_told<D: Desk, W: Write>(
     ensures working { OnOk result (has_failed output.new ≡ has_failed output.old) }
     ensures writer { IfErr result (λ fault. D.Viewer.has_failed desk.old ≡ false
         → ListingTellsWriter (has_failed output.old) (has_failed output.new) (Err fault)) }
+    ensures out { IsOut output.old → IsOut output.new }
 {
     match show_rows(alloc, desk, table, id, output)? {
         Some(reason) => tell_reason(output, reason),
@@ -81,6 +84,7 @@ pub fn show_package<S: Alter + Drop, W: Write>(
         (state S.Store e.0) (written W.contents output.old) (written W.contents output.new) e.1) }
     ensures handed_back { IfErr result (λ e. e.0.in_transaction ≡ false) }
     ensures stopped { IfErr result (λ e. (output.new ≡ output.old) ⊎ (stop_status e.1 ≡ 3)) }
+    ensures out { IsOut output.old → IsOut output.new }
 {
     let mut session = adopt_package(alloc, conn)?;
     match rows_told(alloc, &mut session, table, id, output) {

@@ -2,6 +2,7 @@
 
 ghost use Rattle.std.specs.Prelude.{◌≡◌, ◌⊎◌, ◌++◌, ◌+◌, ◌≤◌, true, codes, decimal, length};
 ghost use Rattle.mm_definitions.specs.Streams.{has_failed, written};
+ghost use Rattle.mm_io.specs.Sending.{IsOut};
 ghost use Rattle.mm_work.specs.Told.{IsTold, init_status, init_text, stop_status, stop_text};
 
 use crate::stop::Stop;
@@ -41,8 +42,9 @@ pub fn numbered_line(words: &[u8], number: u8) -> ArrayVec<u8, 64>
 
 /// Prints bytes, and answers the status, or that of a fault where they can't be printed whole.
 pub fn tell_bytes<W: Write>(output: &mut Io<W>, bytes: &[u8], status: u8) -> u8
-    ensures { IsTold (written W.contents output.old) (written W.contents output.new) bytes.now
+    ensures told { IsTold (written W.contents output.old) (written W.contents output.new) bytes.now
         status result }
+    ensures out { IsOut output.new }
 {
     match send(output, bytes) {
         Sent::Flushed => status,
@@ -55,17 +57,21 @@ pub fn tell_bytes<W: Write>(output: &mut Io<W>, bytes: &[u8], status: u8) -> u8
 pub fn tell_text<W: Write, D: Display + Drop>(output: &mut Io<W>, text: D, status: u8) -> u8
     ensures status { (result ≡ status) ⊎ (result ≡ 3) }
     ensures unprinted { has_failed output.new ≡ true → result ≡ 3 }
+    ensures out { IsOut output.new }
 {
-    if write!(output, "{text}").is_err() || output.flush().is_err() || output.failed() {
-        return FAULT;
+    let is_written = write!(output, "{text}").is_ok();
+    let is_flushed = output.flush().is_ok();
+    if is_written && is_flushed && !output.failed() {
+        return status;
     }
-    status
+    FAULT
 }
 
 /// Prints why the work was not done.
 pub fn tell_stop<W: Write>(output: &mut Io<W>, why: Stop) -> u8
-    ensures { IsTold (written W.contents output.old) (written W.contents output.new) (stop_text why)
-        (stop_status why) result }
+    ensures told { IsTold (written W.contents output.old) (written W.contents output.new)
+        (stop_text why) (stop_status why) result }
+    ensures out { IsOut output.new }
 {
     match why {
         Stop::NotEmpty => tell_bytes(output, b"not empty\n", NO_PACKAGE),
@@ -86,8 +92,9 @@ pub fn tell_stop<W: Write>(output: &mut Io<W>, why: Stop) -> u8
 
 /// Prints what making a package came to.
 pub fn tell_init<W: Write>(output: &mut Io<W>, outcome: Result<(), Stop>) -> u8
-    ensures { IsTold (written W.contents output.old) (written W.contents output.new)
+    ensures told { IsTold (written W.contents output.old) (written W.contents output.new)
         (init_text outcome) (init_status outcome) result }
+    ensures out { IsOut output.new }
 {
     match outcome {
         Ok(()) => tell_bytes(output, b"init ok\n", DONE),

@@ -7,7 +7,7 @@ use Rattle.mm_desk.proofs.bodies.run_body.Goals as goal
 pub returns-clause-ran : goal.returns-clause-ran
 returns-clause-ran g c =
     let it = c.run_list.ensures in
-    let sent = rw c.in-Ok.is at c.sent.ensures in
+    let sent = rw c.in-Ok.is at c.sent.ensures.told in
     let A = g.A.Apply in
     let old = c.args.session.now in
     let new = c.run_list.new.session in

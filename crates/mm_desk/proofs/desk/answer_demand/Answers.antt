@@ -11,7 +11,7 @@ pub returns-in-Show-clause-answered : goal.returns-in-Show-clause-answered
 returns-in-Show-clause-answered g c =
     rw c.in-Show.is (path_answered (page_of c.args.gate) c.in-Show.path.now c.args.here.now g.D.Viewer g.D.Apply c.args.at
     (g.R.Read.remaining (inside c.args.reader.now)) (has_failed c.args.reader.now) c.args.desk.now c.answer_path.new.desk
-    (written g.W.Write.contents c.args.writer.now) (written g.W.Write.contents c.answer_path.new.writer) c.answer_path.result c.answer_path.ensures)
+    (written g.W.Write.contents c.args.writer.now) (written g.W.Write.contents c.answer_path.new.writer) c.answer_path.result c.answer_path.ensures.answered)
 
 pub returns-in-Ok-clause-answered : goal.returns-in-Ok-clause-answered
 returns-in-Ok-clause-answered g c =
@@ -35,7 +35,7 @@ returns-in-Err-clause-answered g c =
 
 pub returns-in-Err-sent-clause-answered : goal.returns-in-Err-sent-clause-answered
 returns-in-Err-sent-clause-answered g c =
-    let cut = rw c.in-Err-sent.is at c.sent.ensures in
+    let cut = rw c.in-Err-sent.is at c.sent.ensures.told in
     rw c.in-End.is (ended_cut (page_of c.args.gate) End c.args.here.now g.D.Viewer g.D.Apply c.args.at
     (g.R.Read.remaining (inside c.args.reader.now)) (has_failed c.args.reader.now) c.args.desk.now
     (written g.W.Write.contents c.args.writer.now) (written g.W.Write.contents c.sent.new.writer) c.in-Err-sent.fault refl cut)
@@ -45,6 +45,6 @@ returns-in-Err-sent-2-clause-answered g c =
     let old = written g.W.Write.contents c.args.writer.now in
     let new = written g.W.Write.contents c.sent-in-Refused.new.writer in
     let bytes : c.as_bytes.result.now ≡ refusal_of c.in-Refused.status = (let e : c.as_bytes.result.now ≡ c.refusal.result.now = search rules in e ∙ c.refusal.ensures) in
-    let cut = subst (λ t. IsCut old new t c.in-Err-sent-2.fault.0) bytes (rw c.in-Err-sent-2.is at c.sent-in-Refused.ensures) in
+    let cut = subst (λ t. IsCut old new t c.in-Err-sent-2.fault.0) bytes (rw c.in-Err-sent-2.is at c.sent-in-Refused.ensures.told) in
     rw c.in-Refused.is (refused_cut (page_of c.args.gate) (Refuse c.in-Refused.status) c.args.here.now g.D.Viewer g.D.Apply c.args.at
     (g.R.Read.remaining (inside c.args.reader.now)) (has_failed c.args.reader.now) c.args.desk.now old new c.in-Refused.status c.in-Err-sent-2.fault refl cut)

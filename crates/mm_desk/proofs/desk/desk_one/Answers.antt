@@ -68,7 +68,7 @@ returns-in-Err-sent-clause-answered g c =
     let old = written g.W.Write.contents c.args.writer.now in
     let new = written g.W.Write.contents c.sent.new.writer in
     let bytes : c.as_bytes.result.now ≡ refusal_of 400 = (let e : c.as_bytes.result.now ≡ c.refusal.result.now = search rules in e ∙ c.refusal.ensures) in
-    let cut = subst (λ t. IsCut old new t c.in-Err-sent.fault.0) bytes (rw c.in-Err-sent.is at c.sent.ensures) in
+    let cut = subst (λ t. IsCut old new t c.in-Err-sent.fault.0) bytes (rw c.in-Err-sent.is at c.sent.ensures.told) in
     cut_short (page_of c.args.gate) (Demands c.args.gate) IsHeadless g.D.Viewer g.D.Apply c.args.at source (has_failed c.read_head.new.reader) c.args.desk.now c.args.desk.now old new
     (refusal_of 400) c.in-Err-sent.fault (stays_same g.D.Apply c.args.desk.now) cut
     (λ p on. some_weaker source _ _ (λ input none. inl (inr (none, refl))) (rw c.in-Ok-None.field-0-is at c.in-Ok-None.ensures.head))

@@ -9,7 +9,7 @@ use Rattle.sqlite_wal.proofs.StateLemmas.{open_from}
 use Rattle.sqlite_pool.proofs.StateLemmas.{clean_is, may_leave_is}
 use Rattle.sqlite.specs.Closing.{HoldsAlone}
 use Rattle.sqlite.proofs.Theorems.{copied}
-use Rattle.mm_files.proofs.Kept.{kept_by_copy, kept_still, open_by}
+use Rattle.mm_files.proofs.Kept.{kept_by_copy, kept_still}
 use Rattle.mm_files.proofs.files.close_files.Goals as goal
 
 pub returns-in-Ok-clause-kept : goal.returns-in-Ok-clause-kept
@@ -49,12 +49,11 @@ returns-in-Err-clause-still g c =
     let before = c.rollback.new.self in
     let last = c.checkpoint.new.self in
     let q = c.checkpoint.ensures.quiet in
-    kept_still c.args.conn last c.close-in-Err.result _ c.close-in-Err.ensures
+    kept_still c.args.conn last
     (λ none on.
     let clean : IsClean (view before) = omega (arith, q.clean) in
     let early : IsClean (view c.into_store-store.result) = omega (arith, c.rollback.ensures.quiet.clean) in
-    ap (λ (v : View). v.is_numbered) (c.checkpoint.ensures.same
-    (open_by last _ (c.is_broken-is_open.ensures.shown none) on))
+    ap (λ (v : View). v.is_numbered) (c.checkpoint.ensures.same on)
     ∙ (c.rollback.ensures.undone.kept clean).numbered ∙ c.into_store-store.ensures.numbered early)
     (λ none db may. c.into_store-store.ensures.sound (omega (arith, q.clean, c.rollback.ensures.quiet.clean)) db
     (c.rollback.ensures.quiet.outcomes db (q.outcomes db may)))

@@ -13,5 +13,5 @@ returns-in-Ok-clause-worked g c =
 
 pub returns-in-Err-clause-ended : goal.returns-in-Err-clause-ended
 returns-in-Err-clause-ended g c =
-    ended_on _ _ _ _ _ _ c.if-not-closes.ensures c.in-Err.ensures.still c.work-conn.ensures.clean
+    ended_on _ _ _ _ _ c.if-not-closes.ensures c.in-Err.ensures.still c.work-conn.ensures.clean
     c.work-conn.ensures.found c.work-conn.ensures.worked

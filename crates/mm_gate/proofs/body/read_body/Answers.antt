@@ -6,7 +6,7 @@ use Rattle.mm_gate.proofs.body.read_body.Goals as goal
 pub returns-in_err-extend_from_slice-in-Ok-clause-frugal :
     goal.returns-in_err-extend_from_slice-in-Ok-clause-frugal
 returns-in_err-extend_from_slice-in-Ok-clause-frugal g c =
-    let (within, read, all, is) = c.pieces.invariant in
+    let (within, still, read, all, is) = c.pieces.invariant in
     let here = take c.args.length c.args.here.now in
     let n = c.in-Ok.n in
     let fits = c.in-Ok.ensures.bound.0 in
@@ -17,7 +17,7 @@ returns-in_err-extend_from_slice-in-Ok-clause-frugal g c =
 
 pub returns-in-Err-clause-frugal : goal.returns-in-Err-clause-frugal
 returns-in-Err-clause-frugal g c =
-    let (within, read, all, is) = c.pieces.invariant in
+    let (within, still, read, all, is) = c.pieces.invariant in
     let here = take c.args.length c.args.here.now in
     let sizes : length c.pieces.body.items ≡ length here + length read = ap length is ∙ length-append here read in
     (read, Consumes-kept _ _ _ read all c.in-Err.ensures.bytes, omega (arith, sizes))

@@ -12,6 +12,7 @@ returns-in-Flushed g c =
       kept = c.in-Ok.ensures.kept;
       served = (c.in-Ok.response.items, c.in-Ok.ensures.response, sent.0);
       working = sent.1;
+      flushed = c.send.ensures.flushed c.in-Flushed.is;
       reading = c.in-Ok.ensures.reading;
       failing = tt;
       frugal = c.in-Ok.ensures.frugal;
@@ -30,6 +31,7 @@ returns-in-Unflushed g c =
       kept = c.in-Ok.ensures.kept;
       served = tt;
       working = tt;
+      flushed = tt;
       reading = tt;
       failing = λ first down. absurd (let g : false ≡ true = sym (c.in-Ok.ensures.reading ∙ first) ∙ down in cc);
       frugal = tt;
@@ -55,6 +57,7 @@ returns g c =
       kept = c.in-Ok.ensures.kept;
       served = tt;
       working = tt;
+      flushed = tt;
       reading = tt;
       failing = λ first down. absurd (let g : false ≡ true = sym (c.in-Ok.ensures.reading ∙ first) ∙ down in cc);
       frugal = tt;

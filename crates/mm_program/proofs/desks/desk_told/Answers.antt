@@ -11,7 +11,7 @@ returns-in-Err-clause-told g c =
         stops.Fault c.in-Err.fault,
         written g.W.Write.contents c.args.output.now,
         inl (refl, refl),
-        c.tell_stop.ensures,
+        c.tell_stop.ensures.told,
       )),
     )
 
@@ -19,7 +19,7 @@ pub returns-in-Err-clause-sitting : goal.returns-in-Err-clause-sitting
 returns-in-Err-clause-sitting g c = inr (
   written g.W.Write.contents c.args.output.now,
   Err (stops.Fault c.in-Err.fault),
-  (inl refl, c.tell_stop.ensures),
+  (inl refl, c.tell_stop.ensures.told),
   refl,
   (stops.Fault c.in-Err.fault, refl, c.in-Err.ensures.fault),
 )

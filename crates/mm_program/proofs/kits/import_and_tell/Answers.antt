@@ -12,7 +12,7 @@ returns-in-Unread-clause-told g c =
     inr (inr (
       named,
       Err (stops.Fault (record { 0 = 96 })),
-      c.tell_stop.ensures,
+      c.tell_stop.ensures.told,
       (stops.Fault (record { 0 = 96 }), refl, inr (inr refl)),
     ))
 
@@ -25,7 +25,7 @@ returns-in-Ok-clause-told g c =
       named,
       c.import_file-done.result.0,
       subst (λ o. IsTold old new (import_text o) (import_status o) c.tell_import.result) (sym c.in-Ok.is)
-          c.tell_import.ensures,
+          c.tell_import.ensures.told,
       rw (← c.in-Some.ensures.value) c.import_file-done.ensures,
     ))
 
@@ -38,6 +38,6 @@ returns-in-Err-clause-told g c =
       named,
       c.import_file-done.result.0,
       subst (λ o. IsTold old new (import_text o) (import_status o) c.tell_stop-in-Err.result) (sym c.in-Err.is)
-          c.tell_stop-in-Err.ensures,
+          c.tell_stop-in-Err.ensures.told,
       rw (← c.in-Some.ensures.value) c.import_file-done.ensures,
     ))

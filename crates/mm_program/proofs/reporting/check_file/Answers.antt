@@ -2,7 +2,7 @@ use Rattle.mm_program.proofs.Ended.{checked}
 use Rattle.mm_program.proofs.reporting.check_file.Goals as goal
 
 pub returns-clause-stopped : goal.returns-clause-stopped
-returns-clause-stopped g c = checked c.on_old.ensures
+returns-clause-stopped g c = checked c.on_old.ensures.worked
 
 pub returns-clause-left : goal.returns-clause-left
-returns-clause-left g c = c.on_old.ensures.files
+returns-clause-left g c = c.on_old.ensures.worked.files

@@ -26,7 +26,7 @@ returns-in-Err-clause-listed g c =
       (
         list_untold _ _ _ c.list_file-done.ensures.listed,
         subst (λ o. IsOutcome (λ (done : Unit {0}). 0) between new o c.tell_stop.result) (sym c.in-Err.is)
-            c.tell_stop.ensures,
+            c.tell_stop.ensures.told,
       ),
       c.list_file-done.ensures.unprinted,
       c.list_file-done.ensures.left,

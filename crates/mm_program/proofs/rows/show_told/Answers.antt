@@ -36,7 +36,7 @@ returns-in-Err-clause-shown g c =
         (
           show_untold _ _ _ c.show_file-done.ensures.shown,
           subst (λ o. IsOutcome (λ (status : ℕ). status) between new o c.tell_stop.result) (sym c.in-Err.is)
-              c.tell_stop.ensures,
+              c.tell_stop.ensures.told,
         ),
         c.show_file-done.ensures.unprinted,
         rw (← c.in-Some.ensures.value) c.show_file-done.ensures.left,

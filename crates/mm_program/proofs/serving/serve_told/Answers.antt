@@ -25,7 +25,7 @@ returns-in-Err-clause-served g c =
       (
         c.serve_file-done.ensures.told,
         subst (λ o. IsOutcome (λ (status : ℕ). status) between new o c.tell_stop.result) (sym c.in-Err.is)
-            c.tell_stop.ensures,
+            c.tell_stop.ensures.told,
       ),
       c.serve_file-done.ensures.unprinted,
       c.serve_file-done.ensures.left,

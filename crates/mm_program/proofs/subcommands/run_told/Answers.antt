@@ -13,7 +13,7 @@ returns-in-Unread-clause-ran g c = inr (
   (
     written g.W.Write.contents c.args.output.now,
     Err (stops.Fault (record { 0 = 96 })),
-    (inl refl, c.tell_stop.ensures),
+    (inl refl, c.tell_stop.ensures.told),
     refl,
     (stops.Fault (record { 0 = 96 }), refl, inr (inr refl)),
   ),
@@ -50,7 +50,7 @@ returns-in-Err-clause-ran g c =
         (
           run_untold _ _ _ c.run_file-done.ensures.run,
           subst (λ o. IsOutcome (λ (status : ℕ). status) between new o c.tell_stop-in-Err.result) (sym c.in-Err.is)
-              c.tell_stop-in-Err.ensures,
+              c.tell_stop-in-Err.ensures.told,
         ),
         c.run_file-done.ensures.unprinted,
         c.run_file-done.ensures.left,

@@ -2,8 +2,8 @@ use Rattle.std.proofs.Common.{◌∙◌, inr, take, drop, refl, sym}
 use Rattle.std.proofs.lemmas.List.{take-append-drop}
 use Rattle.mm_show.proofs.printing.print_rows.Goals as goal
 
-pub returns : goal.returns
-returns g c =
+pub returns-clause-printed : goal.returns-clause-printed
+returns-clause-printed g c =
     let (failed, taken, less, appends) = c.in-Cut.ensures.sent in
     let text = c.in-Ok.text.items in (
       (

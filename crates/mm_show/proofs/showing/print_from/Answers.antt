@@ -12,6 +12,7 @@ loop-turn-init g c = record {
   printed = λ p on lists first read. printed_none p c.args.table.now first (g.W.Write.contents (inside c.args.output.now))
       (map numbered_told c.args.first_of_all.items) read;
   working = refl;
+  out = λ held. held;
 }
 
 pub loop-turn-preserved : goal.loop-turn-preserved
@@ -25,6 +26,7 @@ loop-turn-preserved g c = record {
       printed_more p c.args.table.now first _ _ _ (map numbered_told c.loop-turn.rows.items) it (map numbered_told c.in-Some.more.items)
       (rw c.in-Some.is at turned);
   working = c.in_ok-more.ensures.working ∙ c.loop-turn.invariant.working;
+  out = λ held. c.print_and_read.ensures.out (c.loop-turn.invariant.out held);
 }
 
 pub returns-in_err-more-clause-kept : goal.returns-in_err-more-clause-kept

@@ -16,7 +16,7 @@ returns-in_err-print_rows-clause-shown g c =
     let on = sym (rw (to_z-of_z c.ranges.id) at c.if-not-has_id.ensures) in
     let same = first_same c.args.id rows c.index-rows-0.result some c.index-rows-0.is on in
     let p = err_from_is_err_and c.from_residual.result c.from_residual.ensures.1 in
-    let cut = c.in_err-print_rows.ensures in
+    let cut = c.in_err-print_rows.ensures.printed in
     first_stops c.args.table.now c.args.id (map numbered_told rows) (written g.W.Write.contents c.args.output.now)
     (written g.W.Write.contents c.print_rows.new.output)
     c.from_residual.result c.in_err-print_rows.field-0.0 (p.1 ∙ ap Err p.2) (numbered_told c.index-rows-0.result) same.0
@@ -29,7 +29,7 @@ returns-clause-shown g c =
     let some : 0 < length rows = search rules in
     let on = sym (rw (to_z-of_z c.ranges.id) at c.if-not-has_id.ensures) in
     let same = first_same c.args.id rows c.index-rows-0.result some c.index-rows-0.is on in
-    let whole = c.in_ok-print_rows.ensures in (
+    let whole = c.in_ok-print_rows.ensures.printed in (
       numbered_told c.index-rows-0.result,
       same.0,
       subst

@@ -1,5 +1,5 @@
 use Rattle.mm_work.proofs.pages.tell_page_fault.Goals as goal
 
-pub returns : goal.returns
-returns g c =
-    rw (c.as_slice.ensures.value, c.numbered_line-line.ensures, c.number.ensures.number) at c.is_printed.ensures
+pub returns-clause-told : goal.returns-clause-told
+returns-clause-told g c =
+    rw (c.as_slice.ensures.value, c.numbered_line-line.ensures, c.number.ensures.number) at c.is_printed.ensures.told

@@ -1,4 +1,4 @@
 use Rattle.mm_work.proofs.pages.tell_serving.Goals as goal
 
-pub returns : goal.returns
-returns g c = rw (c.as_slice.ensures.value, c.serving_line-line.ensures) at c.is_printed.ensures
+pub returns-clause-told : goal.returns-clause-told
+returns-clause-told g c = rw (c.as_slice.ensures.value, c.serving_line-line.ensures) at c.is_printed.ensures.told

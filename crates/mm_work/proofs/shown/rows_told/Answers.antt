@@ -17,7 +17,7 @@ returns-in-Some-clause-told g c p on =
     told_reason p c.args.table.now c.args.id old mid (written g.W.Write.contents c.tell_reason.new.output)
     c.in-Some.reason c.tell_reason.result
     (subst (λ (o : Option ℕ). ShowsRecords p c.args.table.now c.args.id old mid (Ok o)) c.in-Some.is
-    (c.in_ok-reason.ensures.shown p on)) c.tell_reason.ensures
+    (c.in_ok-reason.ensures.shown p on)) c.tell_reason.ensures.told
 
 pub returns-in-None-clause-told : goal.returns-in-None-clause-told
 returns-in-None-clause-told g c p on =

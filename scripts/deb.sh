@@ -3,9 +3,11 @@
 #
 #     scripts/deb.sh
 #
-# The program is the one that MMPKG names, else out/mmpkg, and goes in byte for byte: it is the one that was proved and tested, so it
-# is neither stripped nor built again. VERSION stands in crates/mm_arguments/src/texts.rt; the program has to print the same, and
-# CHANGELOG.md to begin with it. Tools that are not there are named and left out. Wants Debian's dpkg-dev and python3.
+# The program is the one that MMPKG names, else out/mmpkg, and goes in byte for byte: it is the one that was proved and
+# tested, so it is neither stripped nor built again. Its version stands in crates/mm_arguments/src/texts.rt; the program
+# has to print the same, and CHANGELOG.md to begin with it. VERSION has a day behind it, 0.2+20261129, so that a newer
+# package takes the place of an older: that of SOURCE_DATE_EPOCH, else of the last commit, and never the clock's. Tools
+# that are not there are named and left out. Wants Debian's dpkg-dev and python3.
 set -eu -o pipefail
 
 cd "$(dirname "$0")/.."
@@ -23,7 +25,10 @@ fail() {
 
 # By a command's name, the tool that it is.
 declare -A tools=(
+    [mmpkg-come-home]=come_home.py
     [mmpkg-crew]=crew.py
+    [mmpkg-fill]=fill.py
+    [mmpkg-hand-out]=hand_out.py
     [mmpkg-import]=import_standard.py
     [mmpkg-export]=export_standard.py
     [mmpkg-kit]=make_kit.py
@@ -32,7 +37,8 @@ declare -A tools=(
     [mmpkg-viewer]=make_viewer.py
 )
 
-# Sets the program's version, which all that tells it has to agree on, and the time that the files get.
+# Sets the program's version, which all that tells it has to agree on, the time that the files get, and the package's
+# version, which tells that day.
 find_version() {
     local whole first
     whole=$(sed -n 's/.*VERSION: &str = "\(.*\)";/\1/p' crates/mm_arguments/src/texts.rt)
@@ -40,9 +46,11 @@ find_version() {
     [ -x "$program" ] || fail "$program isn't there: scripts/build.sh makes out/mmpkg, or MMPKG names the program"
     [ "$("$program" --version)" = "mmpkg $whole" ] || fail "$program is not of version $whole"
     first=$(sed -n '/^## /{p;q}' CHANGELOG.md)
-    [[ $first =~ ^"## $version ("([0-9-]+)")"$ ]] || fail "CHANGELOG.md doesn't begin with $version and its day"
-    SOURCE_DATE_EPOCH=$(date -ud "${BASH_REMATCH[1]} 12:00" +%s)
+    [[ $first =~ ^"## $version ("[0-9-]+")"$ ]] || fail "CHANGELOG.md doesn't begin with $version and its day"
+    SOURCE_DATE_EPOCH=${SOURCE_DATE_EPOCH:-$(git -c safe.directory="$PWD" log -1 --format=%ct)} ||
+        fail "no commit tells the day of the package, nor does SOURCE_DATE_EPOCH"
     export SOURCE_DATE_EPOCH
+    of_day=$version+$(date -ud "@$SOURCE_DATE_EPOCH" +%Y%m%d)
 }
 
 # Puts the program and the commands that stand into the package. Nothing is written beside the tools when they run (-B).
@@ -93,7 +101,7 @@ put_documents() {
     cp -r examples "$documents/examples"
     rm -r "$documents/examples/border/run.sh" "$documents/examples/field_day"
     find "$documents/examples" -type f ! -perm /111 -exec chmod 644 {} +
-    packaging/documents.py changelog "$maintainer" >"$documents/changelog"
+    packaging/documents.py changelog "$maintainer" "$of_day" >"$documents/changelog"
     gzip -9n "$documents/changelog" "$documents"/docs/*.md "$documents/README.md"
     install -D -m 644 packaging/overrides "$root/usr/share/lintian/overrides/mmpkg"
 }
@@ -108,7 +116,7 @@ libraries() {
 put_control() {
     install -d "$root/DEBIAN"
     {
-        printf 'Package: mmpkg\nVersion: %s\nArchitecture: amd64\nMaintainer: %s\n' "$version" "$maintainer"
+        printf 'Package: mmpkg\nVersion: %s\nArchitecture: amd64\nMaintainer: %s\n' "$of_day" "$maintainer"
         printf 'Installed-Size: %s\n' "$(du -sk --apparent-size "$root" | cut -f 1)"
         libraries
         cat packaging/control
@@ -126,7 +134,7 @@ put_documents
 put_control
 find "$root" -type d -exec chmod 755 {} +
 find "$root" -exec touch -hd "@$SOURCE_DATE_EPOCH" {} +
-made=out/mmpkg_${version}_amd64.deb
+made=out/mmpkg_${of_day}_amd64.deb
 mkdir -p out
 dpkg-deb --root-owner-group -Zxz --build "$root" "$folder/made.deb" >/dev/null
 mv "$folder/made.deb" "$made.part"

@@ -3,14 +3,14 @@
 #
 #     scripts/example.sh [FILE]
 #
-# FILE is the package to make; without it, one in a new folder of the system's. Where MMPKG names a built program, that one is run and
-# nothing is built.
+# FILE is the package to make; without it, one in a new folder of the system's. Where MMPKG names a built program, that
+# one is run and nothing is built.
 set -eu -o pipefail
 
 file=$(realpath -m "${1:-$(mktemp -d)/example.mmpkg}")
 cd "$(dirname "$0")/.."
 if [ -z "${MMPKG:-}" ]; then
-    scripts/build.sh
+    setpriv --pdeathsig TERM scripts/build.sh
     MMPKG=$PWD/out/mmpkg
 fi
 mmpkg() {

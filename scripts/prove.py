@@ -1,19 +1,24 @@
 #!/usr/bin/env python3
-"""Proves crates and what they stand on, each as soon as those below it are proved, as many side by side as there are processors.
+"""Proves crates and what they stand on, each as soon as those below it are proved, as many side by side as there are
+processors.
 
     scripts/prove.py CRATE ..
 
-Of a program (mm_cli) what it stands on is proved. A crate that has processors to spare gets them (`rt lib --jobs`). What stands is not proved
-again, and a build that was stopped goes on. It tells each crate as it is proved, how many of how many, and the minutes so far; on a terminal in one
-line that is renewed. out/build.log has what rt said.
+Of a program (mm_cli) what it stands on is proved. A crate that has processors to spare gets them (`rt lib --jobs`).
+What stands is not proved again, and a build that was stopped goes on. It tells each crate as it is proved, how many of
+how many, and the minutes so far; on a terminal in one line that is renewed. out/build.log has what rt said.
 
-Two runs of rt in one tree wait for one another where they share a library, and all share the lowest. So each runs in a copy of the sources of
-its own, in out/rooms. What is proved in a room is handed to the tree, and from there to each room that wants it, without a second copy on the disk.
+Two runs of rt in one tree wait for one another where they share a library, and all share the lowest. So each runs in a
+copy of the sources of its own, in out/rooms. What is proved in a room is handed to the tree, and from there to each
+room that wants it, without a second copy on the disk. The gate refuses a tree with such rooms: they are gone when this
+ends, also by Ctrl-C or SIGTERM. A killed one leaves them to the next build, which goes on with their work, or to the
+gate, which removes them (`.ci/run`). A second build waits for the first.
 """
 import contextlib
 import fcntl
 import os
 import shutil
+import signal
 import subprocess
 import sys
 import threading
@@ -48,8 +53,8 @@ def below(listed, name):
 
 def weight(name):
     """About how long a crate's proof takes: the size of its sources and proofs."""
-    folder = TOP / "crates" / name
-    return sum(file.stat().st_size for file in folder.rglob("*") if file.suffix in (".rt", ".antt") and "out" not in file.parts)
+    files = (TOP / "crates" / name).rglob("*")
+    return sum(it.stat().st_size for it in files if it.suffix in (".rt", ".antt") and "out" not in it.parts)
 
 
 def chains(listed, wanted):
@@ -84,14 +89,26 @@ def room_for(wanted, number):
 
 @contextlib.contextmanager
 def held(folder):
-    """Keeps each rt out of a crate's folder, as rt does."""
+    """Keeps all others who ask out of a folder: of a crate's each rt, which asks so too. Answers the lock's number."""
     folder.mkdir(parents=True, exist_ok=True)
     lock = os.open(folder, os.O_RDONLY)
     try:
         fcntl.flock(lock, fcntl.LOCK_EX)
-        yield
+        yield lock
     finally:
         os.close(lock)
+
+
+@contextlib.contextmanager
+def rooms_for(wanted, count):
+    """The rooms of a build. Behind it what their proofs came to is the tree's, and they are gone."""
+    try:
+        yield [room_for(wanted, number) for number in range(count)]
+    finally:
+        for crate in ROOMS.glob("*/crates/*"):
+            if not (TOP / "crates" / crate.name / "out" / WORK).is_dir():
+                hand_work(crate, TOP / "crates" / crate.name)
+        shutil.rmtree(ROOMS, ignore_errors=True)
 
 
 def stamp(crate):
@@ -125,13 +142,13 @@ def processors():
 class Build:
     """What is proved, what runs, and what of the processors is taken."""
 
-    def __init__(self, listed, wanted, processors):
-        self.listed, self.wanted, self.processors = listed, wanted, processors
+    def __init__(self, listed, wanted, rooms, lock):
+        self.listed, self.wanted, self.rooms, self.lock = listed, wanted, rooms, lock
+        self.processors = len(rooms)
         self.lengths = chains(listed, wanted)
-        self.rooms = [room_for(wanted, number) for number in range(processors)]
         self.proved, self.running, self.failed = set(), {}, None
+        self.started, self.is_stopped = {}, False
         self.began, self.turn = time.monotonic(), threading.Condition()
-        LOG.parent.mkdir(exist_ok=True)
         self.log = open(LOG, "w")
 
     def ready(self):
@@ -146,23 +163,44 @@ class Build:
             for it in below(self.listed, name) | {name}:
                 hand_library(TOP / "crates" / it, room / "crates" / it)
             hand_work(here, there)
-            said = subprocess.run(
-                ["rt", "lib", "--jobs", str(jobs)], cwd=there,
-                stdin=subprocess.DEVNULL, stdout=subprocess.PIPE, stderr=subprocess.STDOUT, text=True, errors="replace",
-            )
+            said, status = self.run_rt(name, jobs, there)
             hand_library(there, here)
             hand_work(there, here)
         with self.turn:
-            self.log.write(f"== {name}\n{said.stdout}")
+            self.log.write(f"== {name}\n{said}")
             self.log.flush()
             del self.running[name]
             self.rooms.append(room)
-            if said.returncode:
+            if status:
                 self.failed = name
             else:
                 self.proved.add(name)
                 self.tell(name)
             self.turn.notify()
+
+    def run_rt(self, name, jobs, folder):
+        """Runs rt, and answers what it said and its status. It ends where this program is killed, and keeps the tree's
+        lock until it has ended."""
+        with self.turn:
+            if self.is_stopped:
+                return "", 1
+            self.started[name] = subprocess.Popen(
+                ["setpriv", "--pdeathsig", "TERM", "rt", "lib", "--jobs", str(jobs)], cwd=folder,
+                stdin=subprocess.DEVNULL, stdout=subprocess.PIPE, stderr=subprocess.STDOUT,
+                text=True, errors="replace", pass_fds=(self.lock,),
+            )
+        said, _ = self.started[name].communicate()
+        return said, self.started[name].returncode
+
+    def stop(self):
+        """Ends what runs, and waits for its end."""
+        with self.turn:
+            self.is_stopped = True
+            for process in self.started.values():
+                if process.poll() is None:
+                    process.terminate()
+            while self.running:
+                self.turn.wait()
 
     def tell(self, name):
         """Says what is proved; a terminal's line is renewed."""
@@ -194,14 +232,31 @@ class Build:
         return not self.failed
 
 
+def interrupt(number, _frame):
+    """A signal that ends a program ends this one as Ctrl-C does; a second one finds it ending."""
+    for it in (signal.SIGINT, signal.SIGTERM, signal.SIGHUP):
+        signal.signal(it, signal.SIG_IGN)
+    raise KeyboardInterrupt(number)
+
+
 def main():
     if len(sys.argv) < 2:
         print(__doc__, file=sys.stderr)
         return 2
     listed = crates_listed()
     wanted = set().union(*(below(listed, it) | ({it} - PROGRAMS) for it in sys.argv[1:]))
-    build = Build(listed, wanted, processors())
-    return 0 if build.run() else 1
+    for it in (signal.SIGINT, signal.SIGTERM, signal.SIGHUP):
+        signal.signal(it, interrupt)
+    try:
+        with held(LOG.parent) as lock, rooms_for(wanted, processors()) as rooms:
+            build = Build(listed, wanted, rooms, lock)
+            try:
+                return 0 if build.run() else 1
+            finally:
+                build.stop()
+    except KeyboardInterrupt as stop:
+        print("stopped: what is proved is kept, and the next build goes on", file=sys.stderr)
+        return 128 + stop.args[0]
 
 
 if __name__ == "__main__":

@@ -1,6 +1,8 @@
-// What is typed and isn't saved. Each tab keeps its own, and what a tab left that is gone is had by those that are there.
+// What is typed and isn't saved. Each tab keeps its own, and what a tab left that is gone is had by those that are
+// there.
 //
-// A draft has two keys: an even number, which is its tab's, for what is typed, and the next for its photos. A tab has a lock as long as it is there.
+// A draft has two keys: an even number, which is its tab's, for what is typed, and the next for its photos. A tab has a
+// lock as long as it is there.
 
 const FIELDS = ["into", "title", "note", "amount", "east", "north"];
 const GONE_WITHIN = 1000;  // milliseconds in which a page is gone that is loaded again
@@ -9,22 +11,41 @@ let tab = 0;                // this tab's number
 let left = [];              // the drafts of tabs that are gone, each with its owner's number
 const watched = new Set();  // the numbers of tabs with a draft that are there
 
-const drafts = durability => store.transaction("drafts", "readwrite", { durability }).objectStore("drafts");
+const drafts = durability => outbox.store.transaction("drafts", "readwrite", { durability }).objectStore("drafts");
 const keysOf = owner => IDBKeyRange.bound(owner, owner + 1);
-const lockOf = owner => `${store.name} tab ${owner}`;
+const ownKeys = () => keysOf(tab);
+const leftHere = () => left;
+const lockOf = owner => `${outbox.store.name} tab ${owner}`;
 
 /** Keeps what is typed, so that it is there when the page is loaded again; "strict" has it on the disk at once. */
 function keepDraft(durability = "relaxed") {
   if (!form) return;
-  const { table, row, fresh, act, place } = form;
-  drafts(durability).put({ table, row, fresh, act: act?.number, place, values: FIELDS.map(it => byId(it).value) }, tab);
+  const { table, row, fresh, act, place, saw, system } = form;
+  const values = FIELDS.map(it => byId(it).value);
+  const kept = drafts(durability).put({ table, row, fresh, act: act?.number, place, saw, system, values }, tab);
+  isKept(kept.transaction);
 }
 
-/** Keeps the photos that aren't saved yet, with the number of their row. */
-function keepPhotos() {
+/** Keeps which photos aren't saved yet, with the number of their row, and the bytes of one that has come. */
+function keepPhotos(photo = null) {
   if (!form) return;
   keepDraft();
-  drafts("strict").put({ of: form.row.id, photos: form.photos }, tab + 1);
+  const change = outbox.store.transaction(["photos", "drafts"], "readwrite", { durability: "strict" });
+  if (photo?.bytes) change.objectStore("photos").put(photo.bytes, photo.id);
+  // An older page in another tab looks for 'photos'.
+  change.objectStore("drafts").put({ of: form.row.id, photos: [], ids: form.photos.map(it => it.id) }, tab + 1);
+  change.oncomplete = () => { if (photo) photo.isKept = true; };
+  isKept(change);
+}
+
+/** Says in the form where the browser doesn't keep what is typed or taken in it. */
+function isKept(transaction) {
+  const now = form;
+  transaction.onabort = () => {
+    const why = whyNotKept(transaction.error);
+    if (form !== now || now.isUnsaved) return;  // Save has said more
+    byId("told").textContent = `What is in this form isn't kept (${why}): save it soon.`;
+  };
 }
 
 /** Takes a number for this tab, and its lock. */
@@ -52,6 +73,10 @@ async function leftDrafts() {
   return found.filter(it => it.row && tables().some(({ table }) => table === it.table));
 }
 
+async function readLeft() {
+  left = await leftDrafts();
+}
+
 /** Looks what a tab has left, once it is gone. */
 function watch(owner) {
   if (watched.has(owner)) return;
@@ -62,7 +87,7 @@ function watch(owner) {
 /** Looks what tabs have left. The list stays the same where that is nothing new: else a tap under way would be lost. */
 async function lookForLeft() {
   const before = String(left.map(it => it.owner));
-  left = await leftDrafts();
+  await readLeft();
   if (String(left.map(it => it.owner)) !== before) showWaiting();
 }
 
@@ -71,8 +96,8 @@ async function openDraft(owner) {
   const how = { signal: AbortSignal.timeout(GONE_WITHIN) };
   const opened = await navigator.locks.request(lockOf(owner), how, async () => {
     const [draft, taken] = await Promise.all([owner, owner + 1].map(it => done(drafts("relaxed").get(it))));
-    const act = waiting.find(it => it.refused && it.number === draft?.act);
-    const photos = draft && taken?.of === draft.row.id ? taken.photos : await broughtBy(act);
+    const act = outbox.waiting.find(it => (it.refused || it.apart) && it.number === draft?.act);
+    const photos = draft && taken?.of === draft.row.id ? await photosOfDraft(taken) : await broughtBy(act);
     if (!draft || form || !tables().some(it => it.table === draft.table)) return false;
     const moved = drafts("strict");
     moved.delete(keysOf(owner));
@@ -84,11 +109,18 @@ async function openDraft(owner) {
   await (opened ? tellLeft() : lookForLeft());
 }
 
+/** The photos of a draft; one of an older page has them itself. Those of an act may go with it: all are kept anew. */
+async function photosOfDraft({ ids, photos }) {
+  if (!ids) return photos;
+  const found = await Promise.all(ids.map(async id => ({ id, bytes: await photoOf(id) })));
+  return found.filter(it => it.bytes);
+}
+
 /** Fills the form with a draft, the act that it changes, if any, and its photos. */
-function fillForm({ table, row, fresh, place, values }, act, photos) {
-  openForm({ table, row, fresh, act });
+function fillForm({ table, row, fresh, place, values, saw, system }, act, photos) {
+  openForm({ table, row, fresh, act, saw, system });
   for (const [at, it] of FIELDS.entries()) byId(it).value = values[at];
-  Object.assign(form, { table: byId("into").value, place, photos });
+  setOf(form, { table: byId("into").value, place, photos });
   if (placeOfForm() !== null) tap(false);
   showPlace();
   showPhotos();
@@ -97,13 +129,14 @@ function fillForm({ table, row, fresh, place, values }, act, photos) {
 
 async function throwDraftAway(owner) {
   await done(drafts("strict").delete(keysOf(owner)));
+  await sweep();
   await tellLeft();
 }
 
 /** Shows anew, here and in other tabs, what tabs have left. */
 async function tellLeft() {
   await recount();
-  tabs.postMessage(null);
+  tellTabs();
 }
 
 /** A draft that a tab has left, in words, and the buttons that go on with it. */

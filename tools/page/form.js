@@ -2,9 +2,18 @@
 
 const MOST_TEXT = 1000, MOST_AMOUNT = 10n ** 15n;
 
-let form = null;          // what the form is about: { table, row, fresh, act, place, photos, before, from }; what its fields showed of the row
-                          // at first: first; of photos on their way how many, the promise that they are there, and what failed of them:
-                          // coming, taken, failed; and the promise of a place from the device: asked
+// What the form is about, which this file alone writes: { table, row, fresh, act, place, photos, before, from }; the
+// row as its crew saw it stand, null of a new one: saw; the system of numbers that are typed: system; what its fields
+// showed of the row at first: first; of photos on their way how many, the promise that they are there, and what failed
+// of them: coming, taken, failed; the promise of a place from the device: asked; and where the last photo that tells it
+// was taken, in degrees: shot.
+let form = null;
+
+/** Changes what a form that is open, or was, is about. */
+const setOf = (now, what) => void Object.assign(now, what);
+
+/** The number of another time that something is asked for the form: only the last answer is shown. */
+const nextTurn = () => form.turn = (form.turn ?? 0) + 1;
 
 /** Whether what is typed or taken in the form would be lost; then that is said. */
 function isHeld() {
@@ -17,26 +26,37 @@ function isHeld() {
 /** Opens the form on a row that stands or waits. */
 function open(row) {
   if (isHeld()) return;
-  const act = row.waits === "refused" ? waiting.find(it => it.refused && it.row?.id === row.id && it.table === showing) : null;
-  if (act) change(act);
-  else openForm({ table: showing, row, fresh: !stood.has(row.id) && !row.waits });
+  const act = outbox.waiting.find(it => (it.refused || it.apart) && it.row?.id === row.id && it.table === rows.showing);
+  if (act && (row.waits === "refused" || row.waits === "changed")) change(act);
+  else openForm({ table: rows.showing, row, fresh: !rows.stood.has(row.id) && !row.waits });
 }
 
-/** Opens the form on an act that was refused, so that it is changed and sent again. */
+/** Opens the form on an act that was refused, or met another's change, so that it is changed and sent again. */
 async function change(act) {
   if (isHeld()) return;
-  openForm({ table: act.table, row: act.row, fresh: true, act, photos: await broughtBy(act) });
+  const photos = await broughtBy(act);
+  if (isHeld()) return;  // what was typed while the photos came
+  const { row, saw } = act.apart ? withMine(act, rows.only) : act;
+  openForm({ table: act.table, row, fresh: true, act, photos, saw });
 }
 
-function openForm({ table, row, fresh, act = null, photos = [] }) {
-  const place = placeIn(row.note), from = form?.from ?? byId("panel").scrollTop;
-  form = { table, row, fresh, act, photos, place, from, coming: 0, taken: Promise.resolve(), before: null, first: null, asked: null };
+/** The row as it is shown, without what it waits for. */
+const plain = ({ id, title, note, amount }) => ({ id, title, note, amount });
+
+function openForm({ table, row, fresh, act = null, photos = [], saw, system = shown?.srs_id ?? rows.only }) {
+  const place = placeIn(row.note), from = form?.from ?? byId("panel").scrollTop, isKnown = saw !== undefined || act;
+  form = { table, row, fresh, act, photos, place, from, system, saw: isKnown ? saw : fresh ? null : plain(row) };
+  Object.assign(form, { coming: 0, taken: Promise.resolve(), asked: null, shot: null });
   hold(false);
-  byId("which").textContent = act ? `Refused: ${act.refused}` : fresh ? "A new row" : `Row ${row.id}`;
+  for (const it of ["remove", "leave"]) byId(it).dispatchEvent(new Event("blur"));
+  byId("which").textContent = act?.refused ? `Refused: ${act.refused}` : act ? "Changed meanwhile by another"
+    : fresh ? "A new row" : `Row ${row.id}`;
   byId("other").hidden = !fresh || tables().length < 2;
   byId("into").value = table;
-  [byId("title").value, byId("note").value, byId("amount").value] = [row.title, place ? place.rest : row.note, row.amount];
-  [byId("east").value, byId("north").value, byId("told").textContent] = [place?.east ?? "", place?.north ?? "", ""];
+  const values = { title: row.title, note: place ? place.rest : row.note, amount: row.amount };
+  Object.assign(values, { east: place?.east ?? "", north: place?.north ?? "" });
+  for (const [name, value] of Object.entries(values)) byId(name).value = value;
+  tellSlip(null, "");
   form.before = typed();
   form.first = wordsTyped();
   byId("remove").hidden = fresh;
@@ -45,6 +65,7 @@ function openForm({ table, row, fresh, act = null, photos = [] }) {
   lead(false);
   showPhotos();
   showPlace();
+  offerPlaceOfPhoto();
   bringIntoSight(place);
   byId("edit").scrollIntoView({ block: "nearest" });
   // Under fingers a field that has the focus brings up the keys, which cover the map.
@@ -60,122 +81,70 @@ const wordsTyped = () => ({ title: byId("title").value, note: byId("note").value
 function closeForm() {
   const from = form?.from;
   form = null;
-  drafts("relaxed").delete(keysOf(tab));
+  drafts("relaxed").delete(ownKeys());
+  sweep();
   byId("edit").hidden = true;
   if (from !== undefined) byId("panel").scrollTop = from;
   tap(false);
   lead(false);
 }
 
-/** The place in the form's fields; null where they are empty, undefined where they are none. */
-function placeOfForm() {
-  const [east, north] = ["east", "north"].map(it => byId(it).value.trim());
-  if (!east && !north) return null;
-  if (!METRES.test(east) || !METRES.test(north)) return undefined;
-  return { system: form.place?.system ?? shown?.srs_id ?? onlySystem, east: east.replace(",", "."), north: north.replace(",", ".") };
-}
-
-/** Tells the system of the form's place, and draws it. */
-function showPlace() {
-  const system = form.place?.system ?? shown?.srs_id ?? onlySystem;
-  byId("system").textContent = system === null ? "" : `in metres of system ${system}`;
-  showDraft();
-}
-
-/** Puts a place of the map's system into the form. */
-function setPlace(east, north, digits) {
-  if (!form) return;
-  [byId("east").value, byId("north").value] = [east.toFixed(digits), north.toFixed(digits)];
-  form.place = { system: shown.srs_id };
-  showPlace();
-  keepDraft("strict");
-}
-
-const isTapping = () => byId("tap").getAttribute("aria-pressed") === "true";
-
-/** Whether the next tap on the map sets the place. */
-function tap(on) {
-  byId("tap").setAttribute("aria-pressed", String(on));
-  byId("map").classList.toggle("taps", on);
-}
-
-/** Sets the place by a tap: where it was, also where it hit a mark. */
-function tapped({ originalEvent, latlng }) {
-  if (!isTapping()) return;
-  const { lng, lat } = originalEvent ? map.mouseEventToLatLng(originalEvent) : latlng;
-  setPlace(lng, lat, digitsHere());
-  tap(false);
-}
-
-/** Asks the device for the form's place. */
-function placeByDevice() {
-  if (form.asked) return;
-  byId("told").textContent = "asking the device ..";
-  form.asked = takePlace(form, placeTyped());
-}
-
-const placeTyped = () => `${byId("east").value} ${byId("north").value}`;
-
-/** Takes the device's place into the form that asked for it, where that is open still and has no other meanwhile; answers whether it told one. */
-async function takePlace(now, before) {
-  const place = await deviceAt().catch(error => ({ why: whyNoDevice(error) }));
-  now.asked = null;
-  if (form !== now) return false;
-  const isOurs = !place.why && placeTyped() === before;
-  if (isOurs) setPlace(place.east, place.north, 2);
-  if (isOurs) showDevice(place);
-  byId("told").textContent = place.why ?? (isOurs ? `The device tells this place within ${Math.ceil(place.accuracy)} m.` : "");
-  return !place.why;
-}
-
-const nameOf = ({ title, id }) => title || String(id);
-
-/** Why the form's fields are no row, in words; empty where they are one. */
+/** Why the form's fields are no row: the field, and the reason in words; none where they are one. */
 function whyNoRow(title, note, place, amount) {
   const long = text => new TextEncoder().encode(text).length > MOST_TEXT;
-  if (place === undefined) return "East and north are two numbers of metres, with at most six decimals; or leave both empty.";
-  if (place && place.system === null) return "A place wants a map that is shown, whose system it is in.";
-  if (!/^(0|-?[1-9][0-9]{0,15})$/.test(amount) || BigInt(amount) > MOST_AMOUNT || BigInt(amount) < -MOST_AMOUNT) {
-    return "The amount is a whole number of at most 10^15, without leading zeros.";
+  if (place === undefined) {
+    return ["east", "East and north are two numbers of metres, with at most six decimals; or leave both empty."];
   }
-  if (long(title)) return "The title has more than 1,000 bytes.";
-  if (long(note)) return "The note, with the place in it, has more than 1,000 bytes.";
-  return "";
+  if (place && place.system === null) return ["east", "A place wants a map that is shown, whose system it is in."];
+  if (!/^(0|-?[1-9][0-9]{0,15})$/.test(amount) || BigInt(amount) > MOST_AMOUNT || BigInt(amount) < -MOST_AMOUNT) {
+    return ["amount", "The amount is a whole number of at most 10^15, without leading zeros."];
+  }
+  if (long(title)) return ["title", "The title has more than 1,000 bytes."];
+  if (long(note)) return ["note", "The note, with the place in it, has more than 1,000 bytes."];
+  return [null, ""];
+}
+
+/** Says why the form isn't saved, at the field that it is about. */
+function tellSlip(field, why) {
+  for (const it of FIELDS) for (const name of ["aria-invalid", "aria-describedby"]) byId(it).removeAttribute(name);
+  byId("told").textContent = why;
+  if (!field) return;
+  byId(field).setAttribute("aria-invalid", "true");
+  byId(field).setAttribute("aria-describedby", "told");
+  byId(field).focus();
 }
 
 /** The row that the form's fields tell; what wasn't changed stays letter by letter. */
 function rowOfForm(place) {
-  const now = wordsTyped(), amount = byId("amount").value.trim() || "0", was = placeIn(form.row.note), wordOf = it => it && noteOf(it, "");
+  const now = wordsTyped(), amount = byId("amount").value.trim() || "0", was = placeIn(form.row.note);
   const title = now.title === form.first.title ? form.row.title : now.title;
   const isSame = now.note === form.first.note, rest = isSame ? was?.rest ?? form.row.note : now.note;
   const note = isSame && wordOf(place) === wordOf(was) ? form.row.note : noteOf(place, rest);
-  return { row: { id: form.row.id, title, note, amount: Number(amount) }, why: whyNoRow(title, note, place, amount) };
-}
-
-/** The acts that save a row and photos: the first photo with the row, and each other one by itself, since a list has 16 MiB. */
-function actsOf(table, row, photos) {
-  const relation = photosOf(table), base = { table, of: row.id };
-  const photo = ({ id }) => [["media", relation.related, id, "image/jpeg"], ["map", relation.mapping, row.id, id]];
-  const isSame = !form.act && !form.fresh && ["title", "note", "amount"].every(it => row[it] === form.row[it]);
-  const first = isSame ? [] : [["row", table, row.id, row.title, row.note, row.amount]];
-  const [one, ...rest] = photos;
-  const made = [
-    { ...base, row: isSame ? undefined : row, what: nameOf(row) + (one ? ", with a photo" : ""), records: [...first, ...one ? photo(one) : []] },
-    ...rest.map(it => ({ ...base, what: `${nameOf(row)}: one more photo`, records: photo(it) })),
-  ];
-  if (form.act) made[0].number = form.act.number;
-  return made.filter(it => it.records.length > 0);
+  return { row: { id: form.row.id, title, note, amount: Number(amount) }, slip: whyNoRow(title, note, place, amount) };
 }
 
 /** Saves the form: its acts are in the outbox, on this browser's disk, before it closes. */
 async function save() {
   if (!await photosAreTaken() || !await placeIsTold()) return;
-  const place = placeOfForm(), { row, why } = rowOfForm(place);
-  byId("told").textContent = why;
-  if (why) return;
+  const place = placeOfForm(), { row, slip: [field, why] } = rowOfForm(place);
+  tellSlip(field, why);
+  if (why || isDoubted(place)) return;
   const table = form.fresh ? byId("into").value : form.table;
-  if (form.photos.length && !photosOf(table)) return void (byId("told").textContent = "The package relates no photos to this table.");
-  await keepAndClose(actsOf(table, row, form.photos), form.photos, photosIn(form.act));
+  if (form.photos.length && !photosOf(table)) return void (byId("told").textContent = NO_PHOTOS);
+  const { act, fresh, saw, photos } = form, isSame = !act && !fresh && isSameRow(row, form.row);
+  const made = actsOfForm({ table, row, saw, isSame, photos, relation: photosOf(table), number: act?.number });
+  await keepAndClose(made, photos, photosIn(act));
+}
+
+/** Whether something is odd about the place, which is said once. */
+function isDoubted(place) {
+  const maps = rows.contents.filter(it => it.extent), { note } = wordsTyped();
+  const doubt = note === form.first.note && wordOf(place) === wordOf(placeIn(form.row.note)) ? ""
+    : doubtOf(place, note, maps, rows.only);
+  if (!doubt || form.doubt === doubt) return false;
+  byId("told").textContent = `${doubt}. Press Save again if that is right.`;
+  form.doubt = doubt;
+  return true;
 }
 
 /** Waits for the photos that are on their way into the form, and answers whether each of them came. */
@@ -218,7 +187,8 @@ async function keepAndClose(made, photos = [], gone = []) {
     closeForm();
     byId("fresh").focus({ preventScroll: true });
   } catch (error) {
-    byId("told").textContent = `This browser could not keep it (${error?.message ?? error}): it isn't saved yet.`;
+    now.isUnsaved = true;
+    byId("told").textContent = `This browser could not keep it (${whyNotKept(error)}): it isn't saved yet.`;
   } finally {
     if (!form || form === now) hold(false);
   }
@@ -227,16 +197,19 @@ async function keepAndClose(made, photos = [], gone = []) {
 /** Removes the form's row, with what leads from it; its photos go where nothing else is related to them. */
 function removeRow() {
   const { table, row } = form;
-  return keepAndClose([{ table, of: row.id, dropped: row.id, what: `remove ${nameOf(row)}`, records: [] }]);
+  return keepAndClose([removalOf(table, plain(row))]);
 }
 
 function listenToForm() {
-  const fresh = () => ({ table: byId("book").value, row: { id: freshId(), title: "", note: "", amount: 0 }, fresh: true });
+  const row = () => ({ id: freshId(), title: "", note: "", amount: 0 });
+  const fresh = () => ({ table: byId("book").value, row: row(), fresh: true });
   byId("fresh").addEventListener("click", () => isHeld() || openForm(fresh()));
   byId("tap").addEventListener("click", () => tap(!isTapping()));
-  byId("middle").addEventListener("click", () => map && setPlace(map.getCenter().lng, map.getCenter().lat, digitsHere()));
+  const middle = () => map.getCenter();
+  byId("middle").addEventListener("click", () => map && setPlace(middle().lng, middle().lat, digitsHere()));
   byId("here").addEventListener("click", placeByDevice);
-  byId("lead").addEventListener("click", () => lead(!led));
+  byId("shot").addEventListener("click", placeByPhoto);
+  byId("lead").addEventListener("click", () => lead(!isLeading()));
   document.addEventListener("visibilitychange", stayAwake);
   byId("into").addEventListener("change", () => { form.table = byId("into").value; showPhotos(); });
   for (const it of ["east", "north"]) byId(it).addEventListener("input", showDraft);

@@ -1,14 +1,15 @@
 """What the tools at the border share: limits, how a package is read, and how lists and kits are written.
 
-The tools are export_standard.py, import_standard.py, make_kit.py, make_viewer.py and kit_between.py. Nothing here is
-proved: docs/FORMATS.md has the limits, the records and the kits, docs/BORDER.md says what goes across, and the checks
-of scripts/outside compare.
+The tools are export_standard.py, import_standard.py, fill.py, make_kit.py, make_viewer.py and kit_between.py. Nothing
+here is proved: docs/FORMATS.md has the limits, the records and the kits, docs/BORDER.md says what goes across, and the
+checks of scripts/outside compare.
 """
 
 import argparse
 import collections.abc
 import contextlib
 import dataclasses
+import itertools
 import math
 import os
 import pathlib
@@ -203,10 +204,10 @@ def pace_file():
     return pathlib.Path(kept) / "mmpkg" / "seconds_a_gb"
 
 
-def seconds_to_open(size):
+def seconds_to_open(size, times=1):
     """About how many seconds opening so many bytes takes, by what the last opening took; 0 where nothing is known."""
     try:
-        seconds = float(pace_file().read_text(encoding="ascii")) * size / 1e9
+        seconds = float(pace_file().read_text(encoding="ascii")) * size * times / 1e9
     except (OSError, ValueError):
         return 0
     return round(seconds) if math.isfinite(seconds) and size >= PACED else 0
@@ -220,22 +221,24 @@ def keep_pace(size, seconds):
             pace_file().write_text(f"{seconds / size * 1e9:.1f}\n", encoding="ascii")
 
 
+def tell_opening(what, size, began):
+    """Tells on a terminal how far the opening of so many bytes is, by what the last one took."""
+    about = seconds_to_open(size)
+    of_about = f" of about {about}" if about else ""
+    LINE.tell(f"{what}: {megabytes(size)}, {time.monotonic() - began:.0f}{of_about} s")
+
+
 def program_says(subcommand, file):
     """The exit status of a subcommand of the program that opens a package, at least 0, and what it prints.
 
     On a terminal it is told how large the package is, how long it has taken, and about how long it will take.
     """
     size, began = sum(sizes_of(file)), time.monotonic()
-    about = seconds_to_open(size)
-    of_about = f" of about {about}" if about else ""
     said = None
-    with subprocess.Popen(
-        [program(), subcommand, file], stdin=subprocess.DEVNULL, stdout=subprocess.PIPE
-    ) as running:
+    with subprocess.Popen([program(), subcommand, file], stdin=subprocess.DEVNULL, stdout=subprocess.PIPE) as running:
         try:
             while said is None:
-                took = time.monotonic() - began
-                LINE.tell(f"mmpkg {subcommand} {file}: {megabytes(size)}, {took:.0f}{of_about} s")
+                tell_opening(f"mmpkg {subcommand} {file}", size, began)
                 with contextlib.suppress(subprocess.TimeoutExpired):
                     said = running.communicate(timeout=RENEWED)[0]
         except BaseException:
@@ -319,7 +322,7 @@ def stamps_of(file):
 
 
 def expect_room(file, folder):
-    """Refuses where a folder has no room for a copy of a package, into which its journal is taken; a large one is told."""
+    """Refuses where a folder has no room for a copy of a package, into which its journal goes; a large one is told."""
     size, journal = sizes_of(file)
     wanted, free = size + 2 * journal, shutil.disk_usage(folder).free
     why = f"{file}: its journal holds commits, another program has it, or it can't be written, so a copy is read"
@@ -396,6 +399,18 @@ def quoted(name):
 
 def is_name(text):
     return isinstance(text, str) and NAME.fullmatch(text) is not None
+
+
+def name_for(name):
+    """A name of a package that is like another."""
+    found = re.sub("[^a-z0-9_]+", "_", name.lower()).strip("_")[:60]
+    return found if is_name(found) else f"t_{found}"[:60]
+
+
+def first_free(name, taken, between):
+    """A name, or with the first number from 2 on behind it that makes it none of those that are taken."""
+    names = itertools.chain([name], (f"{name}{between}{number}" for number in itertools.count(2)))
+    return next(it for it in names if it not in taken)
 
 
 def is_whole(value, least, most):

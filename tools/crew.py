@@ -1,12 +1,17 @@
 #!/usr/bin/env python3
 """Opens a package for a crew's day: its map and rows in a browser, by a program that is started again when it ends.
 
-    tools/crew.py [FILE] [--port PORT] [--table TABLE] [--no-browser] [--wait]
+    tools/crew.py [FILE] [--map MAP ..] [--no-maps] [--port PORT] [--table TABLE] [--no-browser] [--wait]
 
 FILE is a package of mmpkg; without it the only *.mmpkg of the folder is taken. The page is brought into FILE where it
 is missing or older than these tools (as the media table TABLE, 'viewer'). Then 'mmpkg desk' is started at PORT (8090)
 of this machine, and its address opened in the browser. The address has a key, which is kept in FILE.key, that nobody
 else may read: so the address is the same tomorrow, and what a browser keeps is sent there. Keep PORT the same too.
+
+--map MAP has a map lie behind the work: whatever GDAL opens, of any size and system (GeoTIFF, MBTiles, GeoPackage, VRT,
+parcels and lines of any format), drawn as it is asked for, and no part of FILE. Which they are is kept in FILE.maps, a
+list of their names, and they come again without the word; --map adds to it, --no-maps forgets those of before. It wants
+Debian's python3-gdal; without that the page opens, and has no maps behind it.
 
 When the program ends by a fault, or is killed, it is started again, and the page goes on. Ctrl-C, or 'End the day' in
 the page, ends it well: then FILE alone holds all, and may be copied. What can't be opened at the first start is told in
@@ -20,6 +25,7 @@ Exit status: 0 the day was ended, or goes on in another window; 2 wrong argument
 """
 
 import contextlib
+import errno
 import fcntl
 import http.client
 import http.server
@@ -29,16 +35,16 @@ import re
 import secrets
 import shlex
 import signal
-import sqlite3
 import stat
 import subprocess
 import sys
 import tempfile
 import threading
 import time
+import urllib.parse
 import webbrowser
 
-import make_viewer
+import beside
 from border import (
     LINE,
     Refused,
@@ -48,12 +54,13 @@ from border import (
     keep_pace,
     megabytes,
     program,
-    program_says,
     refuse,
     run_tool,
     seconds_to_open,
     sizes_of,
 )
+from bringing import Page, has_page
+from session import Session
 
 PORT = 8090
 CONNECTIONS = 1_000_000
@@ -97,11 +104,23 @@ def the_only_package():
     return found[0]
 
 
+def opened_key(path, file):
+    """The file of a key, opened; refused where a day can't be written beside the package."""
+    try:
+        return os.open(path, os.O_RDWR | os.O_CREAT | os.O_NOFOLLOW, 0o600)
+    except OSError as error:
+        if error.errno not in (errno.EACCES, errno.EPERM, errno.EROFS):
+            raise
+        raise Refused(
+            f"{path}: can't be written, as on a card with its lock on, and so no day can be begun there. Work on a "
+            f"copy in a folder of your own, with the journal where there is one: cp {shlex.quote(str(file))}* FOLDER"
+        ) from error
+
+
 def key_of(file):
     """The key of a package's address, of a file beside it that only its owner may read; made where there is none."""
     path = pathlib.Path(f"{file}.key")
-    opened = os.open(path, os.O_RDWR | os.O_CREAT | os.O_NOFOLLOW, 0o600)
-    with os.fdopen(opened, "r+", encoding="ascii", errors="replace") as kept:
+    with os.fdopen(opened_key(path, file), "r+", encoding="ascii", errors="replace") as kept:
         found = os.fstat(kept.fileno())
         if not stat.S_ISREG(found.st_mode) or found.st_uid != os.getuid():
             raise Refused(f"{path}: is no file of your own; remove it")
@@ -123,60 +142,6 @@ def key_of(file):
         kept.flush()
         os.fsync(kept.fileno())
         return key
-
-
-def expect_package(file, patience):
-    """Refuses where the program finds no package; its journal is in FILE then.
-
-    A program that is about to end has the file for some seconds still.
-    """
-    status, said = program_says("check", file)
-    while said == "fault 91" and patience > 0:
-        time.sleep(0.5)
-        patience -= 0.5
-        status, said = program_says("check", file)
-    if said in FAULTS:
-        raise Refused(f"{file}: {said}: {FAULTS[said]}", status)
-    if status != 0:
-        refuse(file, file, status, said)
-
-
-def has_page(file, table):
-    """Whether the page stands in a package as it would be made now, as far as a file tells that nobody has checked.
-
-    The program checks it as it opens it, and tells what it is then.
-    """
-    if has_commits(file):
-        return False
-    address = f"{file.resolve().as_uri()}?mode=ro&immutable=1"
-    try:
-        with contextlib.closing(sqlite3.connect(address, uri=True)) as opened:
-            return make_viewer.Package(opened).is_current(table)
-    except Exception:  # whatever a file that is no package makes of the reading
-        return False
-
-
-def run_program(file, what, given=b""):
-    """Runs a subcommand that has to end with 0."""
-    done = subprocess.run([program(), *what], input=given, capture_output=True, check=False)
-    if done.returncode != 0:
-        said = " / ".join(done.stdout.decode(errors="replace").split("\n")).strip(" /")
-        raise Refused(f"{file}: the page can't be brought in: {said}", 3)
-
-
-def bring_page(file, table):
-    """Makes the page, and takes it in as the tool says."""
-    with tempfile.TemporaryDirectory() as name:
-        out = pathlib.Path(name) / "page"
-        words = [sys.executable, "-B", make_viewer.__file__, file, out, "--table", table]
-        made = subprocess.run(words, capture_output=True, check=False)
-        if made.returncode != 0:
-            raise Refused(made.stderr.decode(errors="replace").strip(), made.returncode)
-        layout = (out / "layout.csv").read_bytes()
-        edition = layout.decode().split()[-1].removeprefix("edition,")
-        run_program(file, ["run", file], layout)
-        run_program(file, ["kit", file, edition, out])
-        run_program(file, ["run", file], f"publish,{edition}\n".encode())
 
 
 def connections_here():
@@ -240,8 +205,8 @@ def open_browser(address):
 class Desk:
     """The program at its port, which is started again when it ends."""
 
-    def __init__(self, given, file, key):
-        self.given, self.file, self.key = given, file, key
+    def __init__(self, given, file, key, maps=None):
+        self.given, self.file, self.key, self.maps = given, file, key, maps
         self.running = None
         self.had = False
         self.size, self.began = 0, 0.0
@@ -295,10 +260,27 @@ class Desk:
             tell("The program runs again, and the page goes on.")
             return
         self.had = True
-        tell(f"The page is {address}")
+        # What is behind the address no browser sends: the file, and where its maps are drawn.
+        maps = self.maps_told()
+        named = f"{address}#{urllib.parse.quote(self.file.name)}{maps}"
+        tell(f"The page is {named if maps else address}")
         tell("Ctrl-C here, or 'End the day' in the page, ends the day.")
         if not self.given.no_browser:
-            open_browser(address)
+            open_browser(named)
+
+    def maps_told(self):
+        """What the page's address tells of the maps behind the work; nothing where there are none."""
+        if self.maps is None:
+            return ""
+        opened = self.maps.opened()
+        if opened is None:
+            tell("The maps behind the work can't be drawn: GDAL ended, or took too long. The page opens without them.")
+            return ""
+        address, unopened = opened
+        for why in unopened:
+            tell(f"Behind the work, not shown: {why}")
+        told = urllib.parse.urlsplit(address)
+        return f"&maps={told.port}{told.path.rstrip('/')}"
 
     def day(self):
         """Starts the program again and again, until it ends well."""
@@ -345,11 +327,12 @@ class Desk:
         self.running.wait()
 
 
-def how_long(file):
-    """What is told before an opening that takes a while, by what the last one took."""
+def how_long(file, openings):
+    """What is told before openings that take a while, by what the last one took."""
     size = sum(sizes_of(file))
-    seconds = seconds_to_open(size)
-    return f" ({megabytes(size)}: about {seconds} s)" if seconds > 1 else ""
+    seconds = seconds_to_open(size, openings)
+    twice = ", twice" if openings > 1 else ""
+    return f" ({megabytes(size)}{twice}: about {seconds} s)" if seconds > 1 else ""
 
 
 def stop(*_):
@@ -386,14 +369,23 @@ def is_shared(claim):
 
 
 def make_ready(desk):
-    """Gets the package from an earlier start, where there is one, and brings the page in, where it is to be."""
-    file, table = desk.file, desk.given.table
+    """Gets the package from an earlier start, where there is one, and brings the page in, where it is to be.
+
+    That is one opening, and the desk's is the second.
+    """
     earlier = desk.end_earlier()
-    if earlier or not has_page(file, table):
-        expect_package(file, patience=PATIENCE if earlier else 0)
-    if not has_page(file, table):
-        tell("The page is brought in: it is missing, or older than these tools.")
-        bring_page(file, table)
+    ready = not earlier and has_page(desk.file, desk.given.table)
+    tell(f"{desk.file} is opened: first it is checked as a whole{how_long(desk.file, 1 if ready else 2)}.")
+    if ready:
+        return
+    with (
+        tempfile.TemporaryDirectory() as folder,
+        Session(desk.file, PATIENCE if earlier else 0, FAULTS) as session,
+    ):
+        page = Page(session, desk.given.table, folder)
+        if page.is_missing():
+            tell("The page is brought in: it is missing, or older than these tools.")
+            page.bring()
 
 
 def tell_end(file, claim):
@@ -406,13 +398,23 @@ def tell_end(file, claim):
         tell(f"The day is ended: {file} alone holds all, and may be copied.")
 
 
+def maps_behind(given, file):
+    """The maps that lie behind the work, which are told."""
+    paths = beside.chosen(file, given.map, given.no_maps, tell)
+    if paths:
+        names = ", ".join(os.path.basename(it) or it for it in paths)
+        tell(f"Behind the work: {names} ({beside.list_of(file)} keeps which; --no-maps forgets them)")
+    return paths
+
+
 def work(given):
     file = given.FILE or the_only_package()
     if not file.exists():
         raise Refused(f"{file}: isn't there; 'mmpkg init {shlex.quote(str(file))}' makes an empty package", 4)
-    desk = Desk(given, file, key_of(file))
-    with claimed(file) as claim:
-        tell(f"{file} is opened: first it is checked as a whole{how_long(file)}.")
+    paths, origin = maps_behind(given, file), f"http://127.0.0.1:{given.port}"
+    key = key_of(file)
+    with claimed(file) as claim, beside.drawn(paths, origin, tell) as maps:
+        desk = Desk(given, file, key, maps)
         make_ready(desk)
         try:
             with contextlib.suppress(KeyboardInterrupt):
@@ -442,6 +444,8 @@ def worked(given):
 def main():
     parser = arguments(__doc__)
     parser.add_argument("FILE", type=pathlib.Path, nargs="?")
+    parser.add_argument("--map", nargs="+", action="extend", default=[], metavar="MAP")
+    parser.add_argument("--no-maps", action="store_true")
     parser.add_argument("--port", type=int, default=PORT, choices=range(1, 65536), metavar="PORT")
     parser.add_argument("--table", default="viewer")
     parser.add_argument("--no-browser", action="store_true")

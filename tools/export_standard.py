@@ -1,32 +1,46 @@
 #!/usr/bin/env python3
 """Writes a package as a GeoPackage 1.3, which GDAL and QGIS open.
 
-    tools/export_standard.py FILE OUT.gpkg [--points TABLE ..]
+    tools/export_standard.py FILE OUT.gpkg [--points TABLE ..] [--columns TABLE ..] [--photos FOLDER] [--all-tables]
 
 FILE is a package of mmpkg, which is left as it is; nothing may write it meanwhile. It has to pass 'mmpkg check', with
 the program that the environment's MMPKG names, else out/mmpkg of this repository, else mmpkg of the path. Where its
 journal holds commits, or another program has it, or it can't be written, a copy of both is read, in the folder that the
 environment's TMPDIR names, else /tmp; as large as they are. OUT.gpkg must not be there; it is written under another
-name and renamed when it is whole. docs/BORDER.md says what goes across; editions don't, and are named on standard
-error, as are tiles that the standard has no place for.
+name and renamed when it is whole. docs/BORDER.md says what goes across. Editions don't: standard error says how many
+are published, whose content is in, and names those that are open. Tiles that the standard has no place for are named
+too. What is of use to a package alone is left out and named, but with --all-tables: the crew's page, and map_bounds
+where the contents tell all of it.
 
 With --points each attribute table that is named is a layer of points: its rows stand at the places that their notes
 tell (docs/FORMATS.md), in the system of most of them, and without the place's word in the note. A row without a place
 has no geometry. One whose place is of another system keeps it in its note, and is noted. Relations stay, so a row's
 photos are a point's.
 
+With --columns the words NAME=VALUE of the notes of these tables are columns of their own, as an import with --columns
+took them in: of whole numbers, of decimal ones, or of text. --photos writes the photos of all rows as files too, into
+FOLDER, which must not be there: one folder a table, each file named by its row's title and number, and photos.csv that
+lists them.
+
+Rows whose note has a word that begins with @ and is no place, and rows whose place is on no map, are named.
+
 Exit status: 0 OUT.gpkg was written; 2 wrong arguments, or a file that can't be read or written; else what 'mmpkg check'
 ended with, whose line is told: 3 a fault, 4 no package or one that breaks a rule.
 """
 
+import contextlib
+import dataclasses
 import os
 import pathlib
 import re
 import sqlite3
 import tempfile
 
+import note_words
+import photos
 import points
 from border import (
+    BOUNDS_TABLE,
     LINE,
     UNITS_OF_VERSION,
     Refused,
@@ -34,11 +48,13 @@ from border import (
     Source,
     arguments,
     bounds_of,
+    expect_new,
     expect_new_database,
     made_beside,
     quoted,
     run_tool,
 )
+from packages import word_in
 
 # The tables of OGC 12-128r17, annex C, and of OGC 18-000, as those write them. Where no table has features,
 # gpkg_geometry_columns stays empty; without it GDAL lists no attribute table.
@@ -118,6 +134,11 @@ WGS_84 = (
     'AUTHORITY["EPSG","4326"]]'
 )
 
+# How many names of words in a table's notes may become columns: SQLite has no more than 2,000.
+MOST_COLUMNS = 500
+
+RELATED = "SELECT base_table_name, related_table_name FROM package.gpkgext_relations"
+
 IS_WEBP = "(substr(tile_data, 1, 4) = x'52494646' AND substr(tile_data, 9, 4) = x'57454250')"
 IS_IMAGE = f"(substr(tile_data, 1, 4) = x'89504e47' OR substr(tile_data, 1, 3) = x'ffd8ff' OR {IS_WEBP})"
 
@@ -195,48 +216,104 @@ def only_system(out):
     return found[0] if len(found) == 1 else None
 
 
-def points_of(out, name, report):
-    """The system of a table's points, and its rows with their places.
+@dataclasses.dataclass
+class Row:
+    """An attribute row, and what its note tells: a place, and values of columns. The note is the rest then."""
+
+    number: int
+    title: str
+    note: str
+    amount: int
+    place: points.Place | None = None
+    words: dict = dataclasses.field(default_factory=dict)
+
+
+def rows_of(out, name):
+    query = "SELECT id, title, note, amount FROM package.mm_rows WHERE table_name = ? ORDER BY id"
+    return [Row(*it) for it in out.execute(query, (name,))]
+
+
+def place_rows(out, name, rows, report):
+    """Gives rows their places, and answers the system of these, None where no note tells one.
 
     A place of another system, or of none, stays in its note, which is noted.
     """
-    rows = out.execute(
-        "SELECT id, title, note, amount FROM package.mm_rows WHERE table_name = ? ORDER BY id", (name,)
-    ).fetchall()
     # Geometries have 32 bits for the number of a system.
     numbers = {it for (it,) in out.execute("SELECT srs_id FROM package.gpkg_spatial_ref_sys")}
     only, systems = only_system(out), {it for it in numbers if -1 <= it < 2**31 and it not in (0, 4326)}
-    found = [(row, *points.place_in(row[2], only)) for row in rows]
-    system = points.system_of([place for _, place, _ in found if place], systems)
-    placed = []
-    for (number, title, note, amount), place, rest in found:
-        if place and place.system != system:
-            report.note(f"row {number} of {name}", f"its place is of system {place.system}; it stays in its note")
-            place, rest = None, note
-        placed.append((number, title, rest, amount, place))
-    return system, placed
-
-
-def write_points(out, name, report):
-    """An attribute table as a layer of points."""
-    system, rows = points_of(out, name, report)
+    found = [points.place_in(row.note, only) for row in rows]
+    system = points.system_of([place for place, _ in found if place], systems)
+    for row, (place, rest) in zip(rows, found):
+        if place and place.system == system:
+            row.place, row.note = place, rest
+        elif place:
+            report.note(f"row {row.number} of {name}", f"its place is of system {place.system}; it stays in its note")
     if system is None:
         report.note(f"table {name}", "no note of it tells a place, so it is no layer of points")
-        write_user_table(out, name, "attributes")
-        return
-    columns = "title TEXT NOT NULL, note TEXT NOT NULL, amount INTEGER NOT NULL"
-    out.execute(f"CREATE TABLE main.{quoted(name)} (id INTEGER PRIMARY KEY AUTOINCREMENT, geom POINT, {columns})")
+    return system
+
+
+def part_words(name, rows):
+    """Gives rows the words NAME=VALUE of their notes, and answers these by name, each with the type of its values."""
+    values = {}
+    for row in rows:
+        row.words, row.note = note_words.columns_in(row.note)
+        for word, value in row.words.items():
+            values.setdefault(word, []).append(value)
+    if len(values) > MOST_COLUMNS:
+        raise Refused(f"--columns: the notes of {name} have {len(values)} names, at most {MOST_COLUMNS} are columns")
+    return {word: note_words.type_of(them) for word, them in values.items()}
+
+
+def write_rows(out, name, points_too, words_too, report):
+    """An attribute table with what its notes tell: as a layer of points, with further columns, or both."""
+    rows = rows_of(out, name)
+    system = place_rows(out, name, rows, report) if points_too else None
+    types = part_words(name, rows) if words_too else {}
+    free = note_words.free_names(types, ("id", "geom", "title", "note", "amount"))
+    columns = [*(["geom POINT"] if system is not None else []), "title TEXT NOT NULL", "note TEXT NOT NULL"]
+    columns += ["amount INTEGER NOT NULL", *(f"{quoted(free[word])} {sort}" for word, sort in types.items())]
+    out.execute(f"CREATE TABLE main.{quoted(name)} (id INTEGER PRIMARY KEY AUTOINCREMENT, {', '.join(columns)})")
+    shape = [lambda row: row.place and points.geometry_of(row.place)] if system is not None else []
     out.executemany(
-        f"INSERT INTO main.{quoted(name)} (id, title, note, amount, geom) VALUES (?, ?, ?, ?, ?)",
-        [(*row, place and points.geometry_of(place)) for *row, place in rows],
+        f"INSERT INTO main.{quoted(name)} VALUES ({', '.join('?' * (len(columns) + 1))})",
+        [
+            (row.number, *(it(row) for it in shape), row.title, row.note, row.amount, *map(row.words.get, types))
+            for row in rows
+        ],
     )
-    east, north = zip(*((it.east, it.north) for *_, it in rows if it))
+    if system is not None:
+        make_layer(out, name, system, [row.place for row in rows if row.place])
+
+
+def make_layer(out, name, system, places):
+    """Has the contents tell that a table is a layer of points."""
+    east, north = [it.east for it in places], [it.north for it in places]
     out.execute(
         "UPDATE main.gpkg_contents SET data_type = 'features', min_x = ?, min_y = ?, max_x = ?, max_y = ?, srs_id = ? "
         "WHERE table_name = ?",
         (min(east), min(north), max(east), max(north), system, name),
     )
     out.execute("INSERT INTO main.gpkg_geometry_columns VALUES (?, 'geom', 'POINT', ?, 0, 0)", (name, system))
+
+
+def tell_slips(out, units, report):
+    """Names rows whose note means a place and tells none, and rows whose place is on no map."""
+    maps = out.execute("SELECT srs_id, min_x, min_y, max_x, max_y FROM package.gpkg_tile_matrix_set").fetchall()
+    only = only_system(out)
+    for table, number, note in out.execute(
+        "SELECT table_name, id, note FROM package.mm_rows WHERE note LIKE '%@%' ORDER BY table_name, id"
+    ):
+        place, _ = points.place_in(note, only)
+        if place is None and points.MEANT.search(note):
+            report.note(f"row {number} of {table}", "a word of its note begins with @, and is no place")
+        elif place and maps and not any(is_on(place, units, *it) for it in maps):
+            report.note(f"row {number} of {table}", "its place is on no map")
+
+
+def is_on(place, units, system, west, south, east, north):
+    """Whether a place is within the extent of a map, which is told in units."""
+    return place.system == system and west <= place.east * units <= east and south <= place.north * units <= north
 
 
 def finish_pyramid(out, name, kind, report):
@@ -278,44 +355,82 @@ def write_relations(out):
 
 
 def tell_editions(out, report):
-    for name, state, pieces in out.execute(
-        "SELECT e.name, e.state, (SELECT count(*) FROM package.mm_pieces p WHERE p.edition = e.name) "
-        "FROM package.mm_editions e ORDER BY e.name"
+    """Names the editions that are open, and says how many are published: what these brought is in."""
+    for name, pieces in out.execute(
+        "SELECT e.name, (SELECT count(*) FROM package.mm_pieces p WHERE p.edition = e.name) "
+        "FROM package.mm_editions e WHERE e.state = 'open' ORDER BY e.name"
     ):
-        report.note(f"edition {name}", f"left out, {state}" + (f" with pieces: {pieces}" if state == "open" else ""))
+        report.note(f"edition {name}", f"left out, open with pieces: {pieces}")
+    (published,) = out.execute("SELECT count(*) FROM package.mm_editions WHERE state = 'published'").fetchone()
+    if published:
+        report.note(f"published editions ({published})", "left out: what they brought is here")
 
 
-def expect_attributes(out, names):
-    """Refuses where a table that is to be a layer of points has no rows."""
+def tables_of(out, all_tables, report):
+    """The tables that go out, each with its kind; those that only a package has a use for are left out."""
+    tables = dict(out.execute("SELECT table_name, kind FROM package.mm_tables ORDER BY table_name"))
+    if not all_tables:
+        related = {it for row in out.execute(RELATED) for it in row}
+        own = sorted(it for it in {*pages(out), *told_bounds(out)} & tables.keys() if it not in related)
+        for name in own:
+            report.note(f"table {name}", "left out, since only a package has a use for it; --all-tables takes it along")
+            out.execute("DELETE FROM main.gpkg_contents WHERE table_name = ?", (name,))
+            del tables[name]
+    return tables
+
+
+def pages(out):
+    """The tables of pages: media whose item 1 is a page, and whose item 4 is what that has to know."""
+    found = out.execute(
+        "SELECT m.table_name, b.data FROM package.mm_media m JOIN package.mm_blobs b ON b.id = m.blob "
+        "JOIN package.mm_media f ON f.table_name = m.table_name AND f.id = 1 AND f.content_type = 'text/html' "
+        "WHERE m.id = 4 AND m.content_type = 'application/json'"
+    )
+    return [name for name, data in found if word_in(data)]
+
+
+def told_bounds(out):
+    """The table of bounds, where the bounds of maps that it has are all that it has."""
+    query = "SELECT count(*) FROM package.mm_rows WHERE table_name = ?"
+    (count,) = out.execute(query, (BOUNDS_TABLE,)).fetchone()
+    return [BOUNDS_TABLE] if count == len(bounds_of(out, "package")) else []
+
+
+def expect_attributes(out, option, names):
+    """Refuses where a table of which notes are read has no rows."""
     kinds = dict(out.execute("SELECT table_name, kind FROM package.mm_tables"))
     for name in names:
         if kinds.get(name) != "attributes":
-            raise Refused(f"--points: {name!r} is no attribute table of the package")
+            raise Refused(f"{option}: {name!r} is no attribute table of the package")
 
 
-def write_standard(source, made, report, layers):
-    """Writes all that goes across from a package into a new file, and the tables that are named as layers of points."""
+def write_standard(source, made, report, given, folder):
+    """Writes all that goes across from a package into a new file, and the photos into a folder where one is given."""
     out = sqlite3.connect(made.absolute().as_uri(), uri=True)
     try:
         out.execute("ATTACH DATABASE ? AS package", (source.address(),))
         (version,) = out.execute("SELECT version FROM package.mm_profile").fetchone()
         if version not in UNITS_OF_VERSION:
             raise Refused(f"version {version} of the profile isn't known here")
-        expect_attributes(out, layers)
+        expect_attributes(out, "--points", given.points)
+        expect_attributes(out, "--columns", given.columns)
         out.executescript(f"PRAGMA main.application_id = {0x47504B47}; PRAGMA main.user_version = 10300; {TABLES}")
         out.execute("BEGIN")
         write_systems(out, report)
         write_contents(out, UNITS_OF_VERSION[version])
-        for name, kind in out.execute("SELECT table_name, kind FROM package.mm_tables ORDER BY table_name").fetchall():
+        for name, kind in tables_of(out, given.all_tables, report).items():
             LINE.tell(f"table {name}", at_once=True)
-            if name in layers:
-                write_points(out, name, report)
+            if name in (*given.points, *given.columns):
+                write_rows(out, name, name in given.points, name in given.columns, report)
                 continue
             write_user_table(out, name, kind)
             if kind in ("two", "other"):
                 finish_pyramid(out, name, kind, report)
         LINE.clear()
         write_relations(out)
+        tell_slips(out, UNITS_OF_VERSION[version], report)
+        if folder and not photos.write(out, "package", folder):
+            report.note("photos", "no row has one")
         tell_editions(out, report)
         out.commit()
     finally:
@@ -327,20 +442,27 @@ def main():
     parser.add_argument("FILE", type=pathlib.Path)
     parser.add_argument("OUT", type=pathlib.Path)
     parser.add_argument("--points", nargs="+", default=[], metavar="TABLE")
+    parser.add_argument("--columns", nargs="+", default=[], metavar="TABLE")
+    parser.add_argument("--photos", type=pathlib.Path, metavar="FOLDER")
+    parser.add_argument("--all-tables", action="store_true")
     given = parser.parse_args()
     if given.OUT.suffix != ".gpkg":
         raise Refused(f"{given.OUT}: a GeoPackage's name ends with .gpkg")
     expect_new_database(given.OUT)
-    with tempfile.TemporaryDirectory() as name, made_beside(given.OUT) as beside:
-        source = Source(given.FILE, pathlib.Path(name))
-        made = beside / given.OUT.name
-        report = Report()
+    report = Report()
+    with contextlib.ExitStack() as stack:
+        source = Source(given.FILE, pathlib.Path(stack.enter_context(tempfile.TemporaryDirectory())))
+        made = stack.enter_context(made_beside(given.OUT)) / given.OUT.name
+        folder = stack.enter_context(made_beside(given.photos)) / "photos" if given.photos else None
         try:
-            write_standard(source, made, report, given.points)
+            write_standard(source, made, report, given, folder)
         except sqlite3.Error as error:
             raise Refused(f"{given.OUT}: {error}") from error
         source.expect_unchanged()
         expect_new_database(given.OUT)
+        if folder:
+            expect_new(given.photos)
+            os.rename(folder, given.photos)
         os.rename(made, given.OUT)
     report.tell_notes()
     return 0

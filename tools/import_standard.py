@@ -1,8 +1,8 @@
 #!/usr/bin/env python3
 """Writes what a package can take of a standard GeoPackage as a command list, or as a command list and kits.
 
-    tools/import_standard.py IN.gpkg LIST.csv [--table 'THEIRS=OURS'].. [--key NAME] [--all-zooms]
-    tools/import_standard.py IN.gpkg LIST.csv --kit EDITION FOLDER
+    tools/import_standard.py IN.gpkg LIST.csv [--table 'THEIRS=OURS'].. [--key NAME] [--columns] [--all-zooms]
+                                              [--kit EDITION FOLDER] [--first-id N] [--into FILE [--replace]]
 
 LIST.csv gets the records for 'mmpkg run': systems, tile pyramids with their matrices, attribute tables (id, title,
 note, amount), layers of points with these columns, media tables (id, data, content_type), relations between them, and
@@ -11,11 +11,20 @@ goes into kits of at most 4,096 pieces for 'mmpkg kit' instead, and LIST.csv mak
 then FOLDER_2 for EDITION_2 and so on. The commands that take all in are printed, with FILE for the package. Neither
 LIST.csv nor a kit's folder may be there. Nothing may write IN.gpkg meanwhile.
 
+Into a package that has some of these tables --into names it. It is left as it is, and has to pass 'mmpkg check'. What
+stands in it of systems, tables and relations isn't made again. Rows and media of a table that has some there get the
+numbers behind the last, which is noted; with --key they keep those of their key. With --first-id they get N and the
+numbers behind it, with --into and without. Where FILE has another row, media item or tile under a number that comes in,
+all of these are named, and nothing is made; --replace has them written over. Without --into the files are for a package
+that has none of these tables.
+
 --table gives a table of IN.gpkg another name in the package. --key says what the key of tables of rows and media is
-called; without it it is id, and GDAL and QGIS call theirs fid. A matrix without tiles is left out where its pyramid has
-tiles at other zooms, and noted; --all-zooms keeps it. NULL comes in as the empty text, 7.0 as 7, and a content type
-without its parameters. Bounds of a map that are less than its tiles are kept as rows of the table map_bounds, for the
-viewer and the export.
+called; without it it is id, and GDAL and QGIS call theirs fid. With --columns tables and layers of points with any
+columns come in by their own key: title (else name, else the first column of text), note and amount are the row's, and
+each further value is a word NAME=VALUE behind its note, which the export makes a column of again. A matrix without
+tiles is left out where its pyramid has tiles at other zooms, and noted; --all-zooms keeps it. NULL comes in as the
+empty text, 7.0 as 7, and a content type without its parameters. Bounds of a map that are less than its tiles are kept
+as rows of the table map_bounds, for the viewer and the export.
 
 What a package can't hold is named on standard error and left out, with a command that brings it where there is one
 (docs/BORDER.md). What is only noted there changes no exit status.
@@ -24,15 +33,21 @@ Exit status: 0 all was taken; 1 something was left out; 2 wrong arguments, or a 
 """
 
 import contextlib
+import dataclasses
 import math
 import os
 import pathlib
 import re
 import shlex
 import sqlite3
+import sys
+import tempfile
 import zlib
 
+import note_words
 import points
+import ways
+import zones
 from border import (
     AMOUNT_LIMIT,
     BOUNDS_IDENTIFIER,
@@ -55,6 +70,7 @@ from border import (
     Piece,
     Refused,
     Report,
+    Source,
     arguments,
     counted,
     expect_new,
@@ -65,12 +81,14 @@ from border import (
     is_within,
     made_beside,
     media_piece,
+    name_for,
     quoted,
     record,
     run_tool,
     tile_piece,
     whole_units,
 )
+from standing import Standing
 
 APPLICATION_IDS = {int.from_bytes(mark, "big") for mark in (b"GPKG", b"GP10", b"GP11")}
 GEOGRAPHIC = re.compile(r"\s*(GEOGCS|GEOGCRS|GEODCRS|GEOGRAPHICCRS|GEODETICCRS|GEOCCS)\b")
@@ -90,6 +108,11 @@ ROW_COLUMNS = ["title", "note", "amount"]
 MEDIA_COLUMNS = ["data", "content_type"]
 RELATED_KINDS = {"media": "media", "simple_attributes": "attributes"}
 
+# Behind the commands, where no package was named.
+FOR_A_NEW_ONE = (
+    "next: FILE is one without the tables {}; where it has some, --into FILE names it, and writes over nothing"
+)
+
 
 def metres_of_unit(definition):
     """How many metres the unit of a projected system's coordinates is by its WKT, None where that doesn't tell."""
@@ -100,12 +123,6 @@ def metres_of_unit(definition):
         depth += {"]": -1, "[": 1}.get(token[0], 1 if token[1] else 0)
     axis = AXIS_UNIT.search(definition)
     return float(axis[1]) if axis else None
-
-
-def name_for(name):
-    """A name of a package that is like another."""
-    found = re.sub("[^a-z0-9_]+", "_", name.lower()).strip("_")[:60]
-    return found if is_name(found) else f"t_{found}"[:60]
 
 
 def is_whole_double(value):
@@ -173,12 +190,16 @@ class Standard:
     Names are those of the package, but in `theirs`.
     """
 
-    def __init__(self, file, report, names, key="id", all_zooms=False):
+    def __init__(self, file, report, names, key=None, all_zooms=False, first=None, all_columns=False):
         self.file = file
-        self.names, self.key, self.all_zooms = names, key, all_zooms
+        self.names, self.key, self.all_zooms, self.all_columns = names, key or "id", all_zooms, all_columns
+        self.keeps_numbers, self.first, self.standing = key is not None, first, None
         self.theirs = {}
         self.bounds = {}
-        self.points = {}
+        self.shapes = {}
+        why = ways.why_no_geopackage(file)
+        if why:
+            raise Refused(f"{file}: {why}")
         self.source = sqlite3.connect(read_only(file), uri=True)
         self.source.text_factory = lambda data: data.decode("utf-8", "surrogateescape")
         self.report = report
@@ -198,12 +219,18 @@ class Standard:
 
         Empty where there is no such table.
         """
-        return {row[1]: row[5] for row in self.source.execute(f"PRAGMA table_info({quoted(table)})")}
+        if not isinstance(table, str):
+            return {}
+        return {row[1]: row[5] for row in self.source.execute(f"PRAGMA table_xinfo({quoted(table)})")}
+
+    def types(self, table):
+        """By name, the types that a table declares for its columns, in capitals."""
+        return {row[1]: str(row[2]).upper() for row in self.source.execute(f"PRAGMA table_xinfo({quoted(table)})")}
 
     def rows(self, table, columns, order, condition="", values=()):
         """Rows of a table in an order; none where the table is missing."""
         if not self.columns(table):
-            return iter(())
+            return self.source.execute("SELECT NULL WHERE 0")
         return self.source.execute(
             f"SELECT {', '.join(columns)} FROM {quoted(table)} {condition} ORDER BY {order}", values
         )
@@ -239,7 +266,8 @@ class Standard:
         if BOUNDS_TABLE in self.kinds or BOUNDS_IDENTIFIER in self.identifiers:
             told = self.told_bounds()
             for name in [it for it, bounds in self.bounds.items() if told.get(it) != text_of_bounds(bounds)]:
-                self.report.note(f"bounds of {name}", f"they don't come in: {BOUNDS_TABLE} of IN.gpkg tells others, or none")
+                why = f"they don't come in: {BOUNDS_TABLE} of IN.gpkg tells others, or none"
+                self.report.note(f"bounds of {name}", why)
             self.bounds = {}
         if self.bounds:
             self.records.append(["table", BOUNDS_TABLE, "attributes", BOUNDS_IDENTIFIER])
@@ -266,46 +294,49 @@ class Standard:
 
     def read_table(self, theirs, data_type, identifier, description, bounds):
         """The records that make a table, or why there are none."""
-        name = self.names.get(theirs, theirs)
-        identifier = theirs if identifier is None else identifier
-        readers = {
-            "tiles": lambda: self.read_pyramid(name, theirs, identifier, bounds),
-            "attributes": lambda: self.read_plain(name, theirs, identifier),
-            "features": lambda: self.read_points(name, theirs, identifier),
-        }
-        why = None
-        if not is_name(name):
-            why = (
-                "its name is no name of a package, which has small letters, digits and _; "
-                f"--table {shlex.quote(f'{theirs}={name_for(theirs)}')} gives it one"
-            )
-        elif name in self.kinds:
-            why = f"another table came in as {name}"
-        elif not is_identifier(identifier) or identifier in self.identifiers:
-            why = f"its identifier {identifier!r} is none, or another table has it"
-        else:
-            why = readers.get(data_type, lambda: self.why_no_kind(name, theirs, data_type))()
+        made = list(self.records), dict(self.kinds), dict(self.bounds)
+        try:
+            why = self.why_no_table(theirs, data_type, identifier, bounds)
+        except sqlite3.Error as error:
+            why = f"it can't be read: {error}"
+            self.records, self.kinds, self.bounds = made
         if why:
             self.report.left_out(f"table {theirs!r}", why)
-            return
-        self.theirs[name] = theirs
-        self.identifiers.add(identifier)
-        if description:
-            self.report.note(f"description of {name}", "a package has none")
+        elif description:
+            self.report.note(f"description of {self.came(theirs)}", "a package has none")
+
+    def why_no_table(self, theirs, data_type, identifier, bounds):
+        """Makes the records of a table, and answers why there are none, None where there are."""
+        name = self.names.get(theirs, theirs)
+        identifier = theirs if identifier is None else identifier
+        readers = {"tiles": self.read_pyramid, "attributes": self.read_plain, "features": self.read_points}
+        if not isinstance(theirs, str):
+            return "its name is no text"
+        if not is_name(name):
+            given = f"--table {ways.shell(f'{theirs}={name_for(theirs)}')} gives it one"
+            return f"its name is no name of a package, which has small letters, digits and _; {given}"
+        if not self.columns(theirs):
+            return "there is no such table"
+        if name in self.kinds:
+            return f"another table came in as {name}"
+        if not is_identifier(identifier) or identifier in self.identifiers:
+            return f"its identifier {identifier!r} is none, or another table has it"
+        if data_type not in readers:
+            return self.why_no_kind(name, theirs, data_type)
+        why = readers[data_type](name, theirs, identifier, bounds)
+        if why is None:
+            self.theirs[name] = theirs
+            self.identifiers.add(identifier)
+        return why
 
     def why_no_kind(self, name, theirs, data_type):
         """Why a table of another type of data is none that a package takes, with what makes one of it."""
         why = f"a package has no table of {data_type}"
-        return f"{why}; {self.rows_of(name, theirs)} takes its rows along" if data_type == "aspatial" else why
+        if data_type != "aspatial":
+            return why
+        return f"{why}; {self.rows_of(name, theirs, self.shape_of(theirs, None, None))} takes its rows along"
 
-    def points_of(self, name, theirs, column):
-        """The command that makes points that come in of a layer of points."""
-        names = f"CAST(COLUMN AS text) AS title, '' AS note, 0 AS amount, {quoted(column)}"
-        select = f"SELECT {names} FROM {quoted(theirs)}"
-        words = ["-dialect", "SQLite", "-sql", select, "-nln", name, "-nlt", "POINT", "-lco", "FID=id"]
-        return shlex.join(["ogr2ogr", "-f", "GPKG", "-t_srs", "EPSG:25832", "rows.gpkg", str(self.file), *words])
-
-    def read_points(self, name, theirs, identifier):
+    def read_points(self, name, theirs, identifier, bounds):
         """A layer of points: rows, whose notes tell their places."""
         layer = self.rows(
             "gpkg_geometry_columns",
@@ -315,77 +346,91 @@ class Standard:
             (theirs,),
         ).fetchone()
         column, kind, system = layer or ("", "", 0)
-        if kind.upper() not in ("POINT", "GEOMETRY"):
-            return (
-                f"a package has no {kind or 'geometry'}, only points come in, as places; "
-                f"{self.rows_of(name, theirs)} takes its rows along"
-            )
-        columns = self.columns(theirs)
-        key = self.key_of(columns)
-        makes = f"{self.points_of(name, theirs, column)} makes points that come in"
-        if key is None and set(columns) - {"fid", column} == set(ROW_COLUMNS):
+        kind, there = str(kind or "").upper(), self.columns(theirs)
+        if kind not in ("POINT", "GEOMETRY") or column not in there:
+            return self.why_no_points(name, theirs, kind if column in there else "")
+        shape = self.shape_of(theirs, column, system)
+        why = self.why_no_rows(theirs, shape)
+        if why is None and (system in GEOGRAPHIC_SYSTEMS or system not in self.systems):
+            why = f"its system {system} is geographic, or was left out"
+        if why:
+            target = self.system_for(system, bounds)
+            makes = self.rows_of(name, theirs, shape, target)
+            return f"{why}; {makes} makes points that come in{f', {ways.WHERE.format(target)}' if target else ''}"
+        return self.take_rows(name, identifier, shape)
+
+    def why_no_points(self, name, theirs, kind):
+        """Why a layer is none of points, with what makes one of it, or rows."""
+        why = f"a package has no {kind or 'geometry'}, only points come in, as places"
+        if kind == "MULTIPOINT":
+            words = ways.shell("-nlt", "POINT", "-lco", "FID=id", "rows.gpkg", self.file, theirs)
+            return f"{why}; ogr2ogr -f GPKG -explodecollections -unsetFid {words} makes points of it"
+        rows = self.rows_of(name, theirs, self.shape_of(theirs, None, None))
+        return f"{why}; {rows} takes its rows along, and gdal_rasterize draws it into a map (docs/BORDER.md)"
+
+    def system_for(self, system, bounds):
+        """The system into which a layer is brought, None where it has one that comes in."""
+        if system not in GEOGRAPHIC_SYSTEMS and system in self.systems:
+            return None
+        places = [it for it in bounds[1:] if isinstance(it, (int, float))]
+        middle = ((places[0] + places[2]) / 2, (places[1] + places[3]) / 2) if len(places) == 4 else (181, 0)
+        return zones.system_at(*middle) or ways.SYSTEM
+
+    def shape_of(self, theirs, geometry, system):
+        """What the columns of a table are to a row."""
+        return shape_of(self.columns(theirs), self.types(theirs), self.key, geometry, system)
+
+    def why_no_rows(self, theirs, shape):
+        """Why the columns of a table are not those of rows, None where they are or where all are taken."""
+        plain = shape.is_plain() and shape.key in ("id", self.key)
+        if shape.key and (plain or self.all_columns):
+            return None
+        if shape.key == "fid" and shape.is_plain():
             return "its key is fid, as GDAL and QGIS call it; --key fid takes it"
-        if key is None or set(columns) - {key, column} != set(ROW_COLUMNS):
-            return (
-                f"its columns {', '.join(columns)} are not id, {column}, title, note, amount with id as the key; "
-                f"{makes}, where COLUMN is one of these, and 25832 your projected system in metres"
-            )
-        if system in GEOGRAPHIC_SYSTEMS or system not in self.systems:
-            return (
-                f"its system {system} is geographic, or was left out; {makes}, where COLUMN is title, and 25832 your "
-                "projected system in metres"
-            )
-        self.points[name] = (column, system)
+        there = ", ".join(self.columns(theirs))
+        takes = "; --columns takes them all" if shape.key else ""
+        wanted = f"neither id, {', '.join(ROW_COLUMNS)} nor id, {', '.join(MEDIA_COLUMNS)}"
+        if shape.geometry:
+            wanted = f"not id, {shape.geometry}, {', '.join(ROW_COLUMNS)}"
+        return f"its columns {there} are {wanted} with id as the key{takes}"
+
+    def take_rows(self, name, identifier, shape):
+        self.shapes[name] = shape
         self.kinds[name] = "attributes"
         self.records.append(["table", name, "attributes", identifier])
-        return None
 
-    def rows_of(self, name, theirs):
-        """The command that makes rows of a package of any table."""
-        select = f"SELECT CAST(COLUMN AS text) AS title, '' AS note, 0 AS amount FROM {quoted(theirs)}"
-        words = [
-            "ogr2ogr",
-            "-f",
-            "GPKG",
-            "rows.gpkg",
-            str(self.file),
-            "-dialect",
-            "SQLite",
-            "-sql",
-            select,
-            "-nln",
-            name,
-            "-nlt",
-            "NONE",
-            "-lco",
-            "FID=id",
-            "-lco",
-            "ASPATIAL_VARIANT=GPKG_ATTRIBUTES",
-        ]
-        return shlex.join(words)
+    def rows_of(self, name, theirs, shape, target=None):
+        """The command that makes rows of a package of any table, and points of a layer of points."""
+        words = ["-f", "GPKG", *(["-preserve_fid"] if shape.key else [])]
+        if target:
+            words += ["-t_srs", f"EPSG:{target}", *(["-s_srs", "EPSG:4326"] if shape.system == 0 else [])]
+        taken = [theirs] if self.all_columns and shape.geometry else ["-sql", shape.select(theirs)]
+        words += ["rows.gpkg", self.file, *taken, "-nln", name, "-nlt", "POINT" if shape.geometry else "NONE"]
+        kind = [] if shape.geometry else ["-lco", "ASPATIAL_VARIANT=GPKG_ATTRIBUTES"]
+        return ways.shell("ogr2ogr", *words, "-lco", "FID=id", *kind)
 
     def key_of(self, columns):
         """The column that is the key of a table: id, or what --key says; None where it has another key."""
         keys = [column for column, place in columns.items() if place]
         return keys[0] if keys in (["id"], [self.key]) else None
 
-    def read_plain(self, name, theirs, identifier):
+    def read_plain(self, name, theirs, identifier, _):
         """A table of attribute rows or of media, by its columns."""
-        columns = self.columns(theirs)
-        key = self.key_of(columns)
-        kinds = {frozenset(ROW_COLUMNS): "attributes", frozenset(MEDIA_COLUMNS): "media"}
-        kind = kinds.get(frozenset(columns) - {key})
-        if key is None and kinds.get(frozenset(columns) - {"fid"}):
+        there = self.columns(theirs)
+        key = self.key_of(there)
+        if key and set(there) - {key} == set(MEDIA_COLUMNS):
+            self.kinds[name] = "media"
+            self.records.append(["table", name, "media", identifier])
+            return None
+        if set(there) - {"fid"} == set(MEDIA_COLUMNS):
             return "its key is fid, as GDAL and QGIS call it; --key fid takes it"
-        if key is None or kind is None:
-            return (
-                f"its columns {', '.join(columns)} are neither id, title, note, amount nor id, data, content_type "
-                "with id as the key; "
-                f"{self.rows_of(name, theirs)} makes rows of it, where COLUMN is one of these"
-            )
-        self.kinds[name] = kind
-        self.records.append(["table", name, kind, identifier])
-        return None
+        shape = self.shape_of(theirs, None, None)
+        why = self.why_no_rows(theirs, shape)
+        if why is None:
+            return self.take_rows(name, identifier, shape)
+        if why.endswith("takes it"):
+            return why
+        return f"{why}; {self.rows_of(name, theirs, shape)} makes rows of it"
 
     def read_pyramid(self, name, theirs, identifier, bounds):
         sets = self.rows(
@@ -399,10 +444,10 @@ class Standard:
         if not metres or not self.columns(theirs).keys() >= set(TILE_COLUMNS):
             return "it has no matrix set, or lacks a column of tiles"
         if system in GEOGRAPHIC_SYSTEMS or system not in self.systems:
-            return f"its system {system} is geographic, or was left out; {self.warped(theirs)}"
+            return f"its system {system} is geographic, or was left out; {self.filled(theirs)}"
         extent = [whole_units(metre) for metre in metres]
         if not all(is_whole(bound, -COORDINATE_LIMIT, COORDINATE_LIMIT) for bound in extent):
-            return f"its extent {metres} isn't whole in micrometres, or outside the limits; {self.warped(theirs)}"
+            return f"its extent {metres} isn't whole in micrometres, or outside the limits; {self.filled(theirs)}"
         if extent[0] >= extent[2] or extent[1] >= extent[3]:
             return "its extent is empty"
         if bounds[1:] != metres:
@@ -416,15 +461,9 @@ class Standard:
         self.read_matrices(name, theirs, extent, step)
         return None
 
-    def warped(self, theirs):
-        """The command that makes a map of whole lengths of a pyramid."""
-        words = shlex.join(
-            ["gdalwarp", "-t_srs", "EPSG:25832", "-tr", "2.5", "2.5", "-tap", f"GPKG:{self.file}:{theirs}", "whole.tif"]
-        )
-        return (
-            f"{words} makes a map that comes in, where 25832 is your projected system in metres, "
-            "and 2.5 the metres of a pixel"
-        )
+    def filled(self, theirs):
+        """The command that brings a map in which isn't taken as it is."""
+        return f"{ways.fill(f'GPKG:{self.file}:{theirs}')} brings it in, in a system in metres"
 
     def note_bounds(self, name, bounds, metres, extent):
         """Keeps bounds that are less than the extent of the tiles, to the nearest unit."""
@@ -467,6 +506,11 @@ class Standard:
         """The name by which a table came in, empty where it was left out."""
         return next((name for name, it in self.theirs.items() if it == theirs), "")
 
+    def key_in(self, theirs):
+        """The column that is the key by which a table comes in."""
+        shape = self.shapes.get(self.came(theirs))
+        return shape.key if shape else self.key_of(self.columns(theirs))
+
     def read_relations(self):
         columns = [
             "mapping_table_name",
@@ -481,7 +525,7 @@ class Standard:
         ):
             mapping = self.names.get(theirs, theirs)
             ends = [self.came(base), self.came(related)]
-            keys = [self.key_of(self.columns(it)) for it in (base, related)]
+            keys = [self.key_in(it) for it in (base, related)]
             why = None
             if (
                 not is_name(mapping)
@@ -505,11 +549,34 @@ class Standard:
             self.relations.append((mapping, *ends))
             self.records.append(["relation", mapping, *ends, name])
 
+    def expect_in(self, standing):
+        """Has what comes in go to a package that stands."""
+        self.standing = standing
+        self.records = list(standing.missing(self.records, self.report))
+
+    def numbers(self, name):
+        """By its key, the number that a row or a media item of a table gets: its own where nothing else is wanted."""
+        last = self.standing.last_number(name) if self.standing and name != BOUNDS_TABLE else None
+        if self.first:
+            return Numbers(self.first)
+        return Numbers(last + 1) if last and not self.keeps_numbers else Numbers()
+
+    def told_numbers(self, name):
+        """Notes the numbers that a table got anew."""
+        given = self.ids[name]
+        if given.next and given and not self.first:
+            self.report.note(
+                f"{name}: its numbers are {min(given.values())} to {max(given.values())}",
+                f"behind the last that FILE has; --key {self.key} keeps those of IN.gpkg",
+            )
+
     def pieces(self):
         """The content as pieces: the tables by name, then what is related."""
         readers = {"two": self.tiles, "other": self.tiles, "attributes": self.attribute_rows, "media": self.media}
         for name, kind in self.kinds.items():
             yield from readers[kind](name, self.theirs[name])
+            if name in self.ids:
+                self.told_numbers(name)
         for name, bounds in self.bounds.items():
             # Several imports into one package don't take each other's numbers.
             yield Piece(["row", BOUNDS_TABLE, zlib.crc32(name.encode()) + 1, name, text_of_bounds(bounds), 0])
@@ -532,29 +599,44 @@ class Standard:
             self.report.left_out(f"tiles of {name} at zoom {zoom}", f"no matrix was taken for these, {count} in all")
 
     def attribute_rows(self, name, theirs):
-        key = self.key_of(self.columns(theirs))
-        taken = self.ids[name] = set()
-        column, system = self.points.get(name, ("", 0))
-        geometry = quoted(column) if column else "NULL"
-        for number, *texts, amount, point in self.rows(theirs, [quoted(key), *ROW_COLUMNS, geometry], quoted(key)):
-            title, note = ("" if text is None else text for text in texts)
-            amount = int(amount) if is_whole_double(amount) else amount
-            note, why = placed(note, point, system)
+        taken, shape = self.numbers(name), self.shapes[name]
+        self.ids[name] = taken
+        for number, title, note, amount, point, *others in self.rows(theirs, shape.asked(), quoted(shape.key)):
+            if not self.all_columns:
+                self.note_missing(name, number, {"title": title, "note": note})
+            title, note = (self.text_of(it) for it in (title, note))
+            amount = int(amount) if is_whole_double(amount) else 0 if amount is None and self.all_columns else amount
+            note = self.with_words(name, note, shape, others)
+            note, why = placed(note, point, shape.system)
             why = why or why_no_row(number, title, note, amount)
             if why:
                 self.report.left_out(f"row {number} of {name}", why)
-                continue
-            for column, text in zip(ROW_COLUMNS, texts):
-                if text is None:
-                    self.report.note(
-                        f"{column} of row {number} of {name}", "it is NULL, and comes in as the empty text"
-                    )
-            taken.add(number)
-            yield Piece(["row", name, number, title, note, amount])
+            else:
+                yield Piece(["row", name, taken.take(number), title, note, amount])
+
+    def note_missing(self, name, number, texts):
+        for column in [column for column, text in texts.items() if text is None]:
+            self.report.note(f"{column} of row {number} of {name}", "it is NULL, and comes in as the empty text")
+
+    def text_of(self, value):
+        """A title or a note: empty where it is NULL, and with --columns a number is one too."""
+        if value is None:
+            return ""
+        return str(value) if self.all_columns and isinstance(value, (int, float)) else value
+
+    def with_words(self, name, note, shape, others):
+        """A note with the values of further columns as words behind it; NULL is none, and bytes stay behind."""
+        words = [note] if note else []
+        for column, value in zip(shape.others, others):
+            if isinstance(value, bytes):
+                self.report.note(f"column {column} of {name}", "its bytes stay behind")
+            elif value is not None:
+                words.append(note_words.word_of(column, str(value)))
+        return " ".join(words) if isinstance(note, str) else note
 
     def media(self, name, theirs):
         key = self.key_of(self.columns(theirs))
-        taken = self.ids[name] = set()
+        taken = self.ids[name] = self.numbers(name)
         for number, data, told in self.rows(theirs, [quoted(key), *MEDIA_COLUMNS], quoted(key)):
             content_type = told.split(";")[0].strip() if isinstance(told, str) else told
             if not is_whole(number, 1, NUMBER_LIMIT):
@@ -571,19 +653,76 @@ class Standard:
                     self.report.note(
                         f"media item {number} of {name}", f"its content type {told!r} comes in as {content_type}"
                     )
-                taken.add(number)
-                yield media_piece(name, number, content_type, data)
+                yield media_piece(name, taken.take(number), content_type, data)
 
     def mapping_rows(self, mapping, base, related):
         for base_id, related_id in self.rows(
             self.theirs[mapping], ["DISTINCT base_id", "related_id"], "base_id, related_id"
         ):
             if base_id in self.ids[base] and related_id in self.ids[related]:
-                yield Piece(["map", mapping, base_id, related_id])
+                yield Piece(["map", mapping, self.ids[base][base_id], self.ids[related][related_id]])
             else:
                 self.report.left_out(
                     f"mapping row {base_id}, {related_id} of {mapping}", "an end isn't there, or was left out"
                 )
+
+
+@dataclasses.dataclass
+class Shape:
+    """What the columns of a table are to a row: their names, None where there is none; others are the further ones."""
+
+    key: str | None
+    title: str | None
+    note: str | None
+    amount: str | None
+    others: list
+    geometry: str | None
+    system: int | None
+
+    def is_plain(self):
+        """Whether the columns are those of rows and no others."""
+        return [self.title, self.note, self.amount, self.others] == [*ROW_COLUMNS, []]
+
+    def asked(self):
+        """The columns as a query asks for them: the key, title, note, amount, the geometry, and the further ones."""
+        found = ((self.title, "''"), (self.note, "''"), (self.amount, "0"), (self.geometry, "NULL"))
+        return [quoted(self.key), *(quoted(it) if it else none for it, none in found), *map(quoted, self.others)]
+
+    def select(self, theirs):
+        """The query that makes rows of a table, as it is told: its key, and its place, stay."""
+        name = ways.sql_name
+        texts = [f"coalesce({name(it)}, '')" if it else "''" for it in (self.title, self.note)]
+        amount = f"coalesce({name(self.amount)}, 0)" if self.amount else "0"
+        taken = [f"{value} AS {ours}" for value, ours in zip([*texts, amount], ROW_COLUMNS)]
+        ends = [[name(it)] if it else [] for it in (self.key, self.geometry)]
+        return f"SELECT {', '.join([*ends[0], *taken, *ends[1]])} FROM {name(theirs)}"
+
+
+def shape_of(there, types, key, geometry, system):
+    """What the columns of a table are to a row, by their names and types."""
+    keys = [column for column, place in there.items() if place]
+    own = keys[0] if keys in (["id"], [key]) or len(keys) == 1 and "INT" in types[keys[0]] else None
+    rest = {column.lower(): column for column in there if column not in (own, geometry)}
+    texts = [it for it, column in rest.items() if "TEXT" in types[column] or "CHAR" in types[column]]
+    title = next((it for it in ("title", "name", *texts) if it in rest and it not in ("note", "amount")), None)
+    taken = [rest.pop(it, None) for it in (title, "note", "amount")]
+    return Shape(own, *taken, list(rest.values()), geometry, system)
+
+
+class Numbers(dict):
+    """By the number that a row or a media item has in IN.gpkg the one that it gets: its own, or the next of a count."""
+
+    def __init__(self, first=None):
+        super().__init__()
+        self.next = first
+
+    def take(self, number):
+        self[number] = self.next or number
+        if self.next:
+            if self.next > NUMBER_LIMIT:
+                raise Refused(f"no number is left behind {NUMBER_LIMIT}; --first-id names another to begin with")
+            self.next += 1
+        return self[number]
 
 
 def text_of_bounds(bounds):
@@ -617,15 +756,15 @@ def why_no_row(number, title, note, amount):
     return None
 
 
-def write_list(standard, made):
+def write_list(standard, pieces, made):
     with open(made, "w", encoding="utf-8", newline="") as out:
         out.writelines(map(record, standard.records))
-        out.writelines(piece.command() for piece in counted("record", standard.pieces()))
+        out.writelines(piece.command() for piece in counted("record", pieces))
 
 
-def write_kits(standard, made, beside, edition, folder):
+def write_kits(standard, pieces, made, beside, edition, folder):
     kits = KitWriter(edition, folder, beside)
-    for piece in standard.pieces():
+    for piece in pieces:
         kits.add(piece)
     with open(made, "w", encoding="utf-8", newline="") as out:
         out.writelines(map(record, standard.records))
@@ -637,12 +776,23 @@ def write(standard, given):
     """Writes the list, and the kits where they are asked for; returns those."""
     with contextlib.ExitStack() as stack:
         made = stack.enter_context(made_beside(given.LIST)) / given.LIST.name
+        standing, pieces = None, standard.pieces()
+        if given.into:
+            folder = pathlib.Path(stack.enter_context(tempfile.TemporaryDirectory()))
+            standing = Standing(given.into, Source(given.into, folder))
+            standard.expect_in(standing)
+            pieces = standing.watched(pieces)
         if given.kit:
             beside = stack.enter_context(made_beside(pathlib.Path(given.kit[1])))
-            kits = write_kits(standard, made, beside, *given.kit)
-            kits.name()
+            kits = write_kits(standard, pieces, made, beside, *given.kit)
         else:
-            kits = write_list(standard, made)
+            kits = write_list(standard, pieces, made)
+        if standing and not given.replace:
+            standing.expect_nothing_over()
+        if standing:
+            standing.end()
+        if kits:
+            kits.name()
         expect_new(given.LIST)
         os.rename(made, given.LIST)
     return kits
@@ -654,9 +804,17 @@ def main():
     parser.add_argument("LIST", type=pathlib.Path)
     parser.add_argument("--kit", nargs=2, metavar=("EDITION", "FOLDER"))
     parser.add_argument("--table", action="append", default=[], metavar="THEIRS=OURS")
-    parser.add_argument("--key", default="id")
+    parser.add_argument("--key")
+    parser.add_argument("--columns", action="store_true")
+    parser.add_argument("--first-id", type=int, metavar="N")
     parser.add_argument("--all-zooms", action="store_true")
+    parser.add_argument("--into", type=pathlib.Path, metavar="FILE")
+    parser.add_argument("--replace", action="store_true")
     given = parser.parse_args()
+    if given.first_id is not None and not is_whole(given.first_id, 1, NUMBER_LIMIT):
+        raise Refused("--first-id: is no number of 1 to 2^53")
+    if given.replace and not given.into:
+        raise Refused("--replace is for --into FILE")
     names = dict(it.rpartition("=")[::2] for it in given.table)
     for ours in names.values():
         if not is_name(ours):
@@ -665,7 +823,7 @@ def main():
         raise Refused(f"{given.kit[0]!r} is no name of an edition")
     report = Report()
     try:
-        standard = Standard(given.IN, report, names, given.key, given.all_zooms)
+        standard = Standard(given.IN, report, names, given.key, given.all_zooms, given.first_id, given.columns)
         standard.read_layout()
         kits = write(standard, given)
     except sqlite3.Error as error:
@@ -674,6 +832,9 @@ def main():
     print(f"mmpkg run FILE < {shlex.quote(str(given.LIST))}")
     if kits:
         kits.tell()
+    if standard.kinds and not given.into:
+        sys.stdout.flush()
+        print(FOR_A_NEW_ONE.format(", ".join(standard.kinds)), file=sys.stderr)
     return 1 if report.count else 0
 
 

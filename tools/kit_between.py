@@ -1,8 +1,8 @@
 #!/usr/bin/env python3
 """Writes what turns one package into another: the work of a crew comes home as records and kits.
 
-    tools/kit_between.py BEFORE AFTER EDITION OUT
-    tools/kit_between.py BEFORE AFTER EDITION OUT --onto OTHER [--renumber]
+    tools/kit_between.py BEFORE AFTER EDITION OUT [--anyway]
+    tools/kit_between.py BEFORE AFTER EDITION OUT --onto OTHER [--renumber] [--anyway]
 
 BEFORE, AFTER and OTHER are packages of mmpkg, and are left as they are; nothing may write them meanwhile. Each has to
 pass 'mmpkg check', with the program that the environment's MMPKG names, else out/mmpkg of this repository, else mmpkg
@@ -29,11 +29,18 @@ suit what stands then.
 
 Editions, their pieces and last_change are no part of it, and are named on standard error where they differ. A system
 that changed or went is named too: no record does that. It is left out, with the pyramids that come on it. Bytes with
-equal digests are taken for equal.
+equal digests are taken for equal. Where AFTER is as BEFORE that is told, and the status is 1: the work of a day may
+stand in a journal that wasn't copied along.
+
+Packages that don't belong together are refused, with status 2 but for --anyway, as far as it can be seen: where AFTER
+lacks a published edition of BEFORE, which never goes away; OTHER has none of these, or not the mark by which BEFORE was
+handed out; the words of their pages differ; or, where their published editions are the same, one was last changed
+before BEFORE was. --anyway is for the way back too, from AFTER to BEFORE.
 
 With --onto OTHER, a package that began as BEFORE and was changed meanwhile, the changes are written as they can be made
-on OTHER, and FILE is one that is as OTHER is. By the key of each system, table, matrix, tile, row, media item, relation
-and mapping row:
+on OTHER, and FILE is one that is as OTHER is. So one crew comes home wholly, its last edition published, before this
+tool is run for the next one: what was reckoned for both at once would undo the first one's work, and nothing would say
+so. By the key of each system, table, matrix, tile, row, media item, relation and mapping row:
 
     1. Where AFTER is as BEFORE, or as OTHER, nothing is done. Where OTHER is as BEFORE, the change is made. Else it is
        a conflict.
@@ -50,6 +57,7 @@ and mapping row:
 
 A conflict leaves OTHER as it is. conflicts.csv has them by what, key, before, after and other (of bytes the digest);
 standard error says why: 'both made one' where BEFORE has none, else 'both changed it', or what else it goes against.
+Rows and media that BEFORE and AFTER have, and OTHER hasn't, are named there too.
 The kit 'conflicts' has AFTER's side of them, with bytes: published as EDITION_theirs behind all others it takes AFTER's
 side where a piece does that, and what no piece can do is named. Records that are not wanted are taken out of its
 kit.csv, where the others are numbered anew.
@@ -59,13 +67,12 @@ conflict: they get the next numbers behind all that their table has, their mappi
 table, old and new number. Numbers of the crew's page stay: what has one of these on both sides is one row. So a crew
 that comes home once more needs no --renumber; BEFORE is its copy as it came home last.
 
-Exit status: 0 all was written; 1 something was left out, or was a conflict; 2 wrong arguments, or a file that can't be
-read or written; else what 'mmpkg check' ended with, whose line is told: 3 a fault, 4 no package or one that breaks a
-rule.
+Exit status: 0 all was written; 1 something was left out, or was a conflict, or nothing was changed; 2 wrong arguments,
+packages that don't belong together, or a file that can't be read or written; else what 'mmpkg check' ended with, whose
+line is told: 3 a fault, 4 no package or one that breaks a rule.
 """
 
 import collections
-import functools
 import os
 import pathlib
 import shlex
@@ -73,218 +80,14 @@ import sqlite3
 import sys
 import tempfile
 
+import lineage
 import three_way
-from border import (
-    LINE,
-    KitWriter,
-    Piece,
-    Refused,
-    Report,
-    Source,
-    arguments,
-    expect_new,
-    image_suffix,
-    is_name,
-    made_beside,
-    record,
-    run_tool,
-)
-from three_way import Table
+from border import KitWriter, Refused, Report, Source, arguments, expect_new, is_name, made_beside, record, run_tool
+from difference import Difference, summary, told, word_of
+from packages import Files, Package
 
-PROFILE = 2
-
-# By part, how many columns in front are the key, and the query. What is behind the key is what a record has behind it,
-# but for bytes, in whose place their digest stands, and for a mapping row, which has the tables that it relates.
-QUERIES = (
-    (
-        "systems",
-        1,
-        "SELECT srs_id, srs_name, organization, organization_coordsys_id, definition, description "
-        "FROM gpkg_spatial_ref_sys",
-    ),
-    (
-        "matrices",
-        2,
-        "SELECT table_name, zoom_level, matrix_width, matrix_height, tile_width, tile_height, pixel_x_size, "
-        "pixel_y_size FROM gpkg_tile_matrix",
-    ),
-    (
-        "tiles",
-        4,
-        "SELECT table_name, zoom_level, tile_column, tile_row, digest FROM mm_tiles t JOIN mm_blobs b ON b.id = t.blob",
-    ),
-    ("items", 2, "SELECT table_name, id, 'row', title, note, amount FROM mm_rows"),
-    (
-        "items",
-        2,
-        "SELECT table_name, m.id, 'media', content_type, digest FROM mm_media m JOIN mm_blobs b ON b.id = m.blob",
-    ),
-    (
-        "relations",
-        1,
-        "SELECT mapping_table_name, base_table_name, related_table_name, relation_name FROM gpkgext_relations",
-    ),
-    (
-        "mapped",
-        3,
-        "SELECT mapping, base_id, related_id, base_table_name, related_table_name "
-        "FROM mm_map JOIN gpkgext_relations ON mapping_table_name = mapping",
-    ),
-)
-TABLES = (
-    "SELECT table_name, kind, identifier, srs_id, min_x, min_y, max_x, max_y, last_change "
-    "FROM gpkg_contents JOIN mm_tables USING (table_name)"
-)
-PIECES = (
-    "SELECT edition, piece_no, kind, name, k1, k2, k3, k4, k5, k6, k7, t1, t2, digest "
-    "FROM mm_pieces p LEFT JOIN mm_blobs b ON b.id = p.blob ORDER BY edition, piece_no"
-)
-
-
-class Package:
-    """What a package has: by part, a value for each key. Bytes stay in the file, and are told by their digest."""
-
-    def __init__(self, file, folder):
-        self.file = file
-        folder.mkdir()
-        self.read = Source(file, folder)
-        self.source = sqlite3.connect(self.read.address(), uri=True)
-        # Names and digests come again and again, and are kept once.
-        self.source.text_factory = lambda data: sys.intern(data.decode())
-        versions = self.source.execute("SELECT version FROM mm_profile").fetchall()
-        if versions != [(PROFILE,)]:
-            raise Refused(
-                f"{file}: a package of profile {PROFILE} is asked for; 'mmpkg migrate' brings one of profile 1 over"
-            )
-        self.parts = {part: {} for part in three_way.PARTS}
-        LINE.tell(f"reading {file}", at_once=True)
-        for part, size, query in QUERIES:
-            self.parts[part].update((row[:size], row[size:]) for row in self.source.execute(query))
-        self.changed = {}
-        for name, kind, identifier, system, *extent, changed in self.source.execute(TABLES):
-            self.parts["tables"][(name,)] = Table(kind, identifier, system, tuple(extent))
-            self.changed[name] = changed
-        LINE.clear()
-
-    def editions(self):
-        """By name, the state of each edition, and behind it its pieces."""
-        found = {name: [state] for name, state in self.source.execute("SELECT name, state FROM mm_editions")}
-        for name, *piece in self.source.execute(PIECES):
-            found[name].append(piece)
-        return found
-
-    def has_edition(self, name):
-        return self.source.execute("SELECT 1 FROM mm_editions WHERE name = ?", (name,)).fetchone() is not None
-
-    def data(self, digest, columns="data"):
-        """The bytes with a digest, None where the package has none."""
-        found = self.source.execute(f"SELECT {columns} FROM mm_blobs WHERE digest = ?", (digest,)).fetchone()
-        return found and found[0]
-
-
-class Files:
-    """Pieces whose bytes are files, named by their digest, that are read from the first package that has them."""
-
-    def __init__(self, packages):
-        self.packages = packages
-        self.name = functools.cache(self.named)
-
-    def read(self, digest, columns="data"):
-        return next(data for data in (package.data(digest, columns) for package in self.packages) if data is not None)
-
-    def named(self, digest):
-        return digest + image_suffix(self.read(digest, "substr(data, 1, 12)"))
-
-    def piece(self, fields, digest):
-        return Piece(fields, functools.partial(self.read, digest), self.name(digest))
-
-
-class Difference:
-    """What turns one state into another that has all its systems: records of the layout, and pieces of content."""
-
-    def __init__(self, start, goal, files):
-        self.start, self.goal, self.files = start, goal, files
-        self.tables = {
-            key[0]
-            for part in ("tables", "matrices")
-            for key, value in start[part].items()
-            if goal[part].get(key) != value
-        }
-        self.relations = {
-            key[0]
-            for key, value in start["relations"].items()
-            if goal["relations"].get(key) != value or self.tables & set(value[:2])
-        }
-
-    def layout(self):
-        """The records that go before the content."""
-        for name in sorted(self.relations):
-            yield ["relation-drop", name]
-        for name in sorted(self.tables):
-            yield ["drop", name]
-        for key, value in self.comes("systems"):
-            yield ["srs", *key, *value]
-        for key, table in self.comes("tables"):
-            yield table.fields(*key)
-        for key, value in self.comes("relations"):
-            yield ["relation", *key, *value]
-
-    def gone(self, part):
-        """Of which tables or relations the layout takes away all that a part has."""
-        return self.relations if part in ("relations", "mapped") else self.tables
-
-    def goes(self, part):
-        """What goes of what the layout leaves."""
-        gone = self.gone(part)
-        return sorted(
-            (key, value) for key, value in self.start[part].items() if key not in self.goal[part] and key[0] not in gone
-        )
-
-    def comes(self, part):
-        """What comes, changed, or comes again."""
-        start, gone = self.start[part], self.gone(part)
-        return sorted(
-            ((key, value) for key, value in self.goal[part].items() if start.get(key) != value or key[0] in gone),
-            key=lambda entry: entry[0],
-        )
-
-    def content(self):
-        """The pieces, in an order in which each is accepted behind the layout."""
-        yield from (Piece(["map-drop", *key]) for key, _ in self.goes("mapped"))
-        yield from (Piece([f"{value[0]}-drop", *key]) for key, value in self.goes("items"))
-        yield from (Piece(["tile-drop", *key]) for key, _ in self.goes("tiles"))
-        yield from (Piece(["matrix", *key, *value]) for key, value in self.comes("matrices"))
-        yield from (self.item(key, value) for key, value in self.comes("items"))
-        yield from (self.files.piece(["tile", *key], digest) for key, (digest,) in self.comes("tiles"))
-        yield from (Piece(["map", *key]) for key, _ in self.comes("mapped"))
-
-    def item(self, key, value):
-        if value[0] == "row":
-            return Piece(["row", *key, *value[1:]])
-        return self.files.piece(["media", *key, value[1]], value[2])
-
-
-def told(part, value):
-    """A value as the fields of its record, without its key."""
-    if value is None:
-        return ""
-    if part == "tables":
-        value = value.fields("")[:1] + value.fields("")[2:]
-    return record(value[1:] if part == "items" else value).removesuffix("\n")
-
-
-def word_of(merged, part, key):
-    """What a key is of, in one word: of a row or a media item that goes it is what BEFORE has."""
-    if part == "items":
-        return (merged.after[part].get(key) or merged.before[part][key])[0]
-    return {
-        "systems": "system",
-        "tables": "table",
-        "matrices": "matrix",
-        "tiles": "tile",
-        "relations": "relation",
-        "mapped": "map",
-    }[part]
+# Behind the commands, where other crews may come home too.
+ONE_BY_ONE = "next: run these before the next crew's work is reckoned: they suit OTHER as it is now, and no later one"
 
 
 def tell_rest(before, after, report):
@@ -301,18 +104,27 @@ def tell_rest(before, after, report):
             )
     for name in sorted(before.changed.keys() & after.changed.keys()):
         if before.changed[name] != after.changed[name]:
-            report.note(f"last_change of {name}", f"{before.changed[name]} in BEFORE, {after.changed[name]} in AFTER")
+            report.note(f"last_change of {name}", "it is another in AFTER, and doesn't cross")
 
 
-def tell_order(before, packages, report):
-    """Notes where a package was last changed before BEFORE was, by the tables that both have."""
-    for name, package in packages.items():
-        moments = [
-            (package.changed[table], changed) for table, changed in before.changed.items() if table in package.changed
-        ]
-        if any(one < other for one, other in moments) and not any(one > other for one, other in moments):
+def expect_one_past(before, after, other):
+    """Refuses where AFTER or OTHER can't have come of BEFORE, as far as that can be seen."""
+    files = {"AFTER": after.file, "OTHER": other.file}
+    found = [
+        f"{files[name]}: as {name} it {why}" for name, why in lineage.against(before.past(), after.past(), other.past())
+    ]
+    if found:
+        raise Refused("\n".join([*found, "nothing was made; --anyway reckons all the same"]))
+
+
+def tell_missing(before, after, other, report):
+    """Notes rows and media that BEFORE and AFTER have alike, and OTHER hasn't."""
+    items = before.parts["items"], after.parts["items"], other.parts["items"]
+    for key, value in sorted(items[0].items()):
+        if items[1].get(key) == value and key not in items[2]:
             report.note(
-                package.file, f"as {name} it was last changed before BEFORE was: are the packages in the wrong order?"
+                f"{value[0]} {key[0]} {key[1]}",
+                "BEFORE and AFTER have it, OTHER doesn't: it was removed there, or never came home",
             )
 
 
@@ -336,10 +148,6 @@ def tell_conflicts(merged, report):
         rows.append([what, name, *(told(part, value) for value in values)])
         counts[what] += 1
     return rows, counts
-
-
-def summary(counts):
-    return ", ".join(f"{count} {word}" for word, count in sorted(counts.items())) or "nothing"
 
 
 def write_files(difference, edition, out, folder):
@@ -402,13 +210,12 @@ def expect_new_edition(edition, package):
 
 
 def write(packages, given, folder, report):
-    """Writes all files into a folder; returns the kits, and how many records there are of each word."""
+    """Writes all files into a folder; returns the kits, how many records there are of each word, and new numbers."""
     before, after, other = packages[0], packages[1], packages[-1] if len(packages) == 3 else packages[0]
     edition, out = given.EDITION, given.OUT
     expect_new_edition(edition, other)
-    tell_rest(before, after, report)
-    tell_order(before, {"AFTER": after, "OTHER": other}, report)
-    report.tell_notes()
+    if not given.anyway:
+        expect_one_past(before, after, other)
     goal, numbers = (
         three_way.renumbered(before.parts, after.parts, other.parts) if given.renumber else (after.parts, {})
     )
@@ -419,20 +226,35 @@ def write(packages, given, folder, report):
     kits, counts = write_files(Difference(other.parts, merged.result, files), edition, out, folder)
     for name, _ in kits.kits:
         expect_new_edition(name, other)
+    tell_counts(merged, counts, conflicts, len(packages) == 3)
+    if after.parts == before.parts:
+        print(f"{after.file}: nothing was changed: was its journal copied along?", file=sys.stderr)
+        report.count += 1
+    tell_missing(before, after, other, report)
+    tell_rest(before, after, report)
+    report.tell_notes()
+    if rows and len(packages) == 3:
+        write_conflicts(rows, folder)
+        theirs, left = write_theirs(merged, files, edition, out, folder)
+        for name, _ in theirs.kits:
+            expect_new_edition(name, other)
+        tell_next(merged, theirs, left, out)
+    return kits, counts, numbers
+
+
+def tell_counts(merged, counts, conflicts, onto):
+    """Says what was written, and onto a package that changed meanwhile what wasn't."""
+    there = collections.Counter(word_of(merged, *change) for change in merged.there)
     print(f"written: {summary(counts)}", file=sys.stderr)
-    if len(packages) == 3:
-        print(
-            f"there already: {summary(collections.Counter(word_of(merged, *change) for change in merged.there))}",
-            file=sys.stderr,
-        )
-        print(f"conflicts: {summary(conflicts)}", file=sys.stderr)
-        if rows:
-            write_conflicts(rows, folder)
-            theirs, left = write_theirs(merged, files, edition, out, folder)
-            for name, _ in theirs.kits:
-                expect_new_edition(name, other)
-            tell_next(merged, theirs, left, out)
-    return kits, counts
+    if onto:
+        print(f"there already: {summary(there)}\nconflicts: {summary(conflicts)}", file=sys.stderr)
+
+
+def made_in(folder, name):
+    """A folder that is made in another."""
+    made = pathlib.Path(folder) / str(name)
+    made.mkdir()
+    return made
 
 
 def main():
@@ -441,6 +263,7 @@ def main():
         parser.add_argument(name, type=kind)
     parser.add_argument("--onto", type=pathlib.Path, metavar="OTHER")
     parser.add_argument("--renumber", action="store_true")
+    parser.add_argument("--anyway", action="store_true")
     given = parser.parse_args()
     if not is_name(given.EDITION):
         raise Refused(f"{given.EDITION!r} is no name of an edition")
@@ -454,8 +277,8 @@ def main():
         made = beside / "made"
         made.mkdir()
         try:
-            packages = [Package(file, pathlib.Path(name) / str(place)) for place, file in enumerate(files)]
-            kits, counts = write(packages, given, made, report)
+            packages = [Package(Source(file, made_in(name, place))) for place, file in enumerate(files)]
+            kits, counts, numbers = write(packages, given, made, report)
         except sqlite3.Error as error:
             raise Refused(f"{given.OUT}: {error}") from error
         for package in packages:
@@ -465,6 +288,11 @@ def main():
     if counts:
         print(f"mmpkg run FILE < {shlex.quote(str(given.OUT / 'before.csv'))}")
     kits.tell()
+    sys.stdout.flush()
+    if counts and given.onto:
+        print(ONE_BY_ONE, file=sys.stderr)
+    if numbers:
+        print("next: give the crew a new copy: its own has the old numbers", file=sys.stderr)
     return 1 if report.count else 0
 
 

@@ -6,7 +6,7 @@
 FILE is a package of mmpkg. OUT, which must not be there, gets layout.csv, which makes the media table TABLE ('viewer')
 and an open edition, and a kit of four media items: 1 the page, 2 and 3 the script and the style of Leaflet with their
 licence, 4 what the page has to know: the matrices of all pyramids of FILE and where their tiles are, the relations, and
-the systems in which it can tell a device's place. The commands that take them in are printed, with FILE for the
+the systems in which it can tell a device's place, with their numbers at EPSG. The commands that take them in are printed, with FILE for the
 package; then 'mmpkg serve FILE --port PORT' shows the page at http://127.0.0.1:PORT/media/TABLE/1, and 'mmpkg desk FILE
 --port PORT --page TABLE' works at the address that it prints (tools/crew.py does all of this). Leaflet is that of
 Debian's package libjs-leaflet.
@@ -18,7 +18,8 @@ description. Maps that WMTS doesn't tell are named on standard error.
 Where matrices come later, make the viewer anew, in another OUT: where FILE has the table, layout.csv only makes the
 edition, and publishing puts the four items in place of the old ones. An edition is published once, so it has the
 table's name, or behind that TABLE_2, TABLE_3 and so on, the first that FILE doesn't have; --edition names another. A
-table TABLE that is no media table, or has other media as 1 to 4, is refused.
+table TABLE that is no media table, has other media than a viewer's, or a relation, is refused: its items run at the
+page's address.
 
 FILE is left as it is; nothing may write it meanwhile. It has to pass 'mmpkg check', with the program that the
 environment's MMPKG names, else out/mmpkg of this repository, else mmpkg of the path. Where its journal holds commits,
@@ -33,14 +34,15 @@ told: 3 a fault, 4 no package or one that breaks a rule.
 import base64
 import contextlib
 import hashlib
-import itertools
 import json
 import pathlib
 import re
 import secrets
 import shlex
 import sqlite3
+import sys
 import tempfile
+import xml.etree.ElementTree
 
 import systems
 import wmts
@@ -52,6 +54,7 @@ from border import (
     Source,
     arguments,
     bounds_of,
+    first_free,
     is_name,
     made_beside,
     media_piece,
@@ -60,30 +63,63 @@ from border import (
 )
 
 PAGE = pathlib.Path(__file__).resolve().parent / "page"
+# The page's script in its order: what it reckons with, which asks no browser anything, and then what does.
+CORE = (
+    "notes.mjs",
+    "typed.mjs",
+    "slips.mjs",
+    "systems.mjs",
+    "exif.mjs",
+    "behind.mjs",
+    "answers.mjs",
+    "changes.mjs",
+    "records.mjs",
+    "steps.mjs",
+    "words.mjs",
+    "degrees.mjs",
+    "notewords.mjs",
+    "files.mjs",
+    "day.mjs",
+    "plane.mjs",
+)
 SCRIPTS = (
+    *CORE,
+    "asking.js",
+    "behind.js",
+    "parts.js",
+    "shapes.js",
+    "layers.js",
+    "pyramids.js",
     "map.js",
+    "related.js",
     "places.js",
     "outbox.js",
+    "sending.js",
+    "waiting.js",
     "photos.js",
     "marks.js",
     "way.js",
+    "measure.js",
+    "stake.js",
     "drafts.js",
     "form.js",
+    "formplace.js",
+    "rows.js",
+    "out.js",
+    "report.js",
     "work.js",
+    "news.js",
     "start.js",
 )
+IMPORT = re.compile(r'(?m)^import \{ ([^}]*) \} from "\./([a-z]+\.mjs)";\n')
+EXPORT = re.compile(r"(?m)^export (?=(?:async function|function|const) (\w+))")
 LEAFLET = pathlib.Path("/usr/share/javascript/leaflet")
 LICENCE = pathlib.Path("/usr/share/doc/libjs-leaflet/copyright")
 CONTENT_TYPES = {1: "text/html", 2: "text/javascript", 3: "text/css", 4: "application/json"}
 DESCRIPTION = 5
 DESCRIPTION_TYPE = "text/xml"
+NAMESPACES = ("http://www.opengis.net/wmts/1.0", "http://www.opengis.net/ows/1.1")
 WORD = re.compile("[0-9a-f]{16}")
-
-
-def first_free(name, taken, between):
-    """A name, or with the first number from 2 on behind it that makes it none of those that are taken."""
-    names = itertools.chain([name], (f"{name}{between}{number}" for number in itertools.count(2)))
-    return next(it for it in names if it not in taken)
 
 
 class Package:
@@ -95,7 +131,7 @@ class Package:
     def column(self, query, *values):
         return [value for (value,) in self.opened.execute(query, values)]
 
-    def has_viewer_table(self, table, content_types):
+    def has_viewer_table(self, table):
         """Whether the table stands already.
 
         Refused where another kind has its name, or it has other media than a viewer's.
@@ -105,14 +141,28 @@ class Package:
         kinds = self.column("SELECT kind FROM mm_tables WHERE table_name = ?", table)
         if kinds not in ([], ["media"]):
             raise Refused(f"{table}: is a table of kind {kinds[0]}; --table names another table")
-        for number, content_type in self.opened.execute(
-            "SELECT id, content_type FROM mm_media WHERE table_name = ? ORDER BY id", (table,)
-        ):
-            if content_types.get(number, content_type) != content_type:
-                raise Refused(
-                    f"{table}: its item {number} is {content_type} and no viewer's; --table names another table"
-                )
+        for stranger in self.strangers(table):
+            raise Refused(f"{table}: {stranger}; --table names another table")
         return bool(kinds)
+
+    def strangers(self, table):
+        """What a page's table has that is none of the page's, in words.
+
+        Its items run at the page's address, so none of them is anybody else's, and no row leads to one.
+        """
+        types = CONTENT_TYPES | {DESCRIPTION: DESCRIPTION_TYPE}
+        items = "SELECT id, content_type FROM mm_media WHERE table_name = ? ORDER BY id"
+        for number, content_type in self.opened.execute(items, (table,)):
+            if types.get(number) != content_type:
+                yield f"its item {number} is {content_type} and no viewer's"
+        if not is_description(self.item(table, DESCRIPTION)):
+            yield f"its item {DESCRIPTION} is no WMTS description of these tools"
+        relations = (
+            "SELECT mapping_table_name, base_table_name, related_table_name FROM gpkgext_relations "
+            "WHERE ? IN (base_table_name, related_table_name) ORDER BY 1"
+        )
+        for mapping, base, related in self.opened.execute(relations, (table,)):
+            yield f"the relation {mapping} relates {related} to {base}"
 
     def free_edition(self, table, wanted, report):
         """The edition that brings the viewer: what is wanted, else the first of the table's name that is free."""
@@ -129,9 +179,9 @@ class Package:
                 )
         return edition
 
-    def table_records(self, table, content_types):
+    def table_records(self, table):
         """The record that makes the table, none where it stands."""
-        if self.has_viewer_table(table, content_types):
+        if self.has_viewer_table(table):
             return []
         return [
             [
@@ -184,13 +234,18 @@ class Package:
         return [dict(zip(("mapping", "base", "related", "name"), row)) for row in self.opened.execute(query)]
 
     def systems(self):
-        """By number, the parameters of the pyramids' systems that the page can reckon."""
-        query = (
-            "SELECT srs_id, definition FROM gpkg_spatial_ref_sys "
-            "WHERE srs_id IN (SELECT srs_id FROM gpkg_tile_matrix_set) ORDER BY srs_id"
-        )
+        """By number, the parameters of the systems that the page can reckon."""
+        query = "SELECT srs_id, definition FROM gpkg_spatial_ref_sys ORDER BY srs_id"
         found = {number: systems.transverse_mercator(definition) for number, definition in self.opened.execute(query)}
         return {number: it for number, it in found.items() if it}
+
+    def numbers_at_epsg(self):
+        """By number, the numbers that the package's systems have at EPSG, by which maps behind the work are drawn."""
+        query = (
+            "SELECT srs_id, organization_coordsys_id FROM gpkg_spatial_ref_sys "
+            "WHERE upper(organization) = 'EPSG' AND organization_coordsys_id > 0 ORDER BY srs_id"
+        )
+        return dict(self.opened.execute(query))
 
     def item(self, table, number):
         """The bytes of a media item, None where there is none."""
@@ -206,17 +261,36 @@ class Package:
         word = before if isinstance(before, str) and WORD.fullmatch(before) else secrets.token_hex(8)
         return {
             "package": word,
+            "page": digest_of(f"\n{page_script()}"),
             "pyramids": self.matrices(),
             "relations": self.relations(),
             "systems": self.systems(),
+            "epsg": self.numbers_at_epsg(),
         }
 
     def is_current(self, table):
         """Whether the page stands in the package as it would be made now, but for where tiles are."""
         items = fixed_items()
+        if any(self.strangers(table)):
+            return False
         return all(self.item(table, number) == items[number] for number in items) and without_tiles(
             read_known(self.item(table, 4))
         ) == without_tiles(json.loads(json.dumps(self.known(table))))
+
+
+def is_description(data):
+    """Whether bytes are a WMTS description alone: its elements and no other, so that nothing of them runs in a browser.
+
+    Where there are none that is so too.
+    """
+    if data is None:
+        return True
+    try:
+        elements = list(xml.etree.ElementTree.fromstring(data).iter())
+    except (xml.etree.ElementTree.ParseError, ValueError):
+        return False
+    others = [it for it in elements if not str(it.tag).startswith(tuple(f"{{{name}}}" for name in NAMESPACES))]
+    return not others and b"<!" not in data and data.count(b"<?") <= 1 and data.startswith(b"<?xml ")
 
 
 def read_known(data):
@@ -251,14 +325,32 @@ def leaflet_item(name):
     return f"/* {head}\n\n{licence}*/\n{text}".encode()
 
 
+def digest_of(text):
+    """A text's digest as a policy has it."""
+    return f"sha256-{base64.b64encode(hashlib.sha256(text.encode()).digest()).decode()}"
+
+
+def page_script():
+    """The page's modules as one script: each takes names of modules before it alone, under the names these give."""
+    given, texts = {}, ['"use strict";']
+    for module in SCRIPTS:
+        text = (PAGE / module).read_text(encoding="utf-8")
+        for names, other in IMPORT.findall(text):
+            missing = set(names.split(", ")) - given.get(other, set())
+            assert not missing, f"{module}: {other} before it gives no {missing}"
+        given[module] = set(EXPORT.findall(text))
+        texts.append(EXPORT.sub("", IMPORT.sub("", text)))
+        assert not re.search(r"(?m)^(import|export)\b", texts[-1]), f"{module}: an import or export of another form"
+    return "\n".join(texts)
+
+
 def page_item():
     """The page with its style and script, whose hashes are in its policy, which lets nothing else run in it."""
     page = (PAGE / "page.html").read_text(encoding="utf-8")
-    script = "\n".join((PAGE / name).read_text(encoding="utf-8") for name in SCRIPTS)
+    script = page_script()
     style = (PAGE / "page.css").read_text(encoding="utf-8")
     for element, text in (("style", f"\n{style}"), ("script", f"\n{script}")):
-        digest = base64.b64encode(hashlib.sha256(text.encode()).digest()).decode()
-        page = page.replace(f"HASH-OF-{element.upper()}", f"sha256-{digest}", 1)
+        page = page.replace(f"HASH-OF-{element.upper()}", digest_of(text), 1)
         page = page.replace(f"<{element}></{element}>", f"<{element}>{text}</{element}>", 1)
     return page.encode()
 
@@ -266,6 +358,11 @@ def page_item():
 def fixed_items():
     """The items that are the same for every package."""
     return {1: page_item(), 2: leaflet_item("leaflet.min.js"), 3: leaflet_item("leaflet.css")}
+
+
+def page_items():
+    """The items that are the same for every package, each with its content type."""
+    return {number: (CONTENT_TYPES[number], data) for number, data in fixed_items().items()}
 
 
 def write_kit(folder, beside, table, edition, items):
@@ -278,11 +375,11 @@ def write_kit(folder, beside, table, edition, items):
 
 
 def read_package(source, given, report):
-    """The layout's text, the edition, and the items that tell of the package."""
+    """The records of the layout, the edition, and the items that tell of the package."""
     types = CONTENT_TYPES | ({DESCRIPTION: DESCRIPTION_TYPE} if given.wmts else {})
     with contextlib.closing(sqlite3.connect(source.address(), uri=True)) as opened:
         package = Package(opened)
-        tables = package.table_records(given.table, types)
+        tables = package.table_records(given.table)
         edition = package.free_edition(given.table, given.edition, report)
         if not package.column("SELECT 1 FROM gpkg_tile_matrix LIMIT 1"):
             report.note(given.FILE, "has no matrix yet: make the viewer anew when it has")
@@ -299,7 +396,7 @@ def read_package(source, given, report):
                 f"item {DESCRIPTION} of {given.table}", "the WMTS description stays as it is; --wmts PORT makes it anew"
             )
         return (
-            "".join(map(record, [*tables, ["edition", edition]])),
+            [*tables, ["edition", edition]],
             edition,
             {number: (types[number], data) for number, data in items.items()},
         )
@@ -316,7 +413,7 @@ def main():
     for name in (given.table, given.edition or given.table):
         if not is_name(name):
             raise Refused(f"{name!r} is no name of a package")
-    items = {number: (CONTENT_TYPES[number], data) for number, data in fixed_items().items()}
+    items = page_items()
     with tempfile.TemporaryDirectory() as name, made_beside(given.OUT) as beside:
         source, report = Source(given.FILE, pathlib.Path(name)), Report()
         try:
@@ -325,13 +422,15 @@ def main():
             raise Refused(f"{given.FILE}: {error}") from error
         source.expect_unchanged()
         kit = write_kit(given.OUT, beside, given.table, edition, items | more)
-        (beside / given.OUT.name / "layout.csv").write_text(layout, encoding="utf-8", newline="")
+        text = "".join(map(record, layout))
+        (beside / given.OUT.name / "layout.csv").write_text(text, encoding="utf-8", newline="")
         kit.name()
     report.tell_notes()
     print(f"mmpkg run FILE < {shlex.quote(str(given.OUT / 'layout.csv'))}")
     kit.tell()
     if given.wmts:
-        print(f"mmpkg serve FILE --port {given.wmts}")
+        sys.stdout.flush()
+        print(f"next: mmpkg serve FILE --port {given.wmts} shows them to GDAL and QGIS", file=sys.stderr)
     return 1 if report.count else 0
 
 

@@ -13,6 +13,8 @@ PLACE = re.compile(
         "SPACE", SPACE
     )
 )
+# What is meant for a place, whether it is one or not.
+MEANT = re.compile(rf"(?:^|{SPACE})@")
 COORDINATE_LIMIT = 1_000_000_000
 # The bytes of an envelope by its kind in the flags of a geometry.
 ENVELOPES = {0: 0, 1: 32, 2: 48, 3: 48, 4: 64}

@@ -24,7 +24,16 @@ import pathlib
 import sqlite3
 import sys
 
-from border import Refused, arguments, copy_with_journal, expect_new_database, made_beside, program_says, quoted, run_tool
+from border import (
+    Refused,
+    arguments,
+    copy_with_journal,
+    expect_new_database,
+    made_beside,
+    program_says,
+    quoted,
+    run_tool,
+)
 
 # The tables of a package with their columns (docs/FORMATS.md, section 2).
 TABLES = {

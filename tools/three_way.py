@@ -1,4 +1,4 @@
-"""What becomes of a package that was changed in two places: the rule of kit_between.py, over dictionaries.
+"""What becomes of a package that was changed in two places: the rule of kit_between.py and come_home.py.
 
 A state of a package is a dictionary by part. Each part has a value for each key, a tuple whose first entry is the name
 of a table or of a relation (of a system its number). docs/FORMATS.md has the rules that a state keeps; the help of
@@ -48,8 +48,8 @@ def in_order(kind, zooms):
     return all(at_low > at_high for at_low, at_high in pairs)
 
 
-# The least number that the crew's page makes, that of 2026 begun (docs/FORMATS.md, 'Numbers and places of a crew'): no two crews have one, so
-# what has it on both sides is one row.
+# The least number that the crew's page makes, that of 2026 begun (docs/FORMATS.md, 'Numbers and places of a crew'): no
+# two crews have one, so what has it on both sides is one row.
 LEAST_OF_PAGE = 4096 * 189_388_800_000
 
 
@@ -58,21 +58,39 @@ def renumbered(before, after, other):
 
     The next numbers behind all that a table has anywhere are taken. Mapping rows go along. Numbers of the page stay.
     """
+    numbers = new_numbers(colliding(before, after, other), (before, after, other))
+    return with_numbers(after, numbers), numbers
+
+
+def colliding(before, after, other):
+    """The keys of rows and media that AFTER made, and OTHER made otherwise; those of the page aren't among them."""
+    return [
+        key
+        for key, value in sorted(after["items"].items())
+        if key not in before["items"] and other["items"].get(key, value) != value and key[1] < LEAST_OF_PAGE
+    ]
+
+
+def new_numbers(keys, states, others=()):
+    """By their keys, numbers behind all that the tables have in some states, and among some other keys."""
     used = collections.defaultdict(set)
-    for name, number in (key for state in (before, after, other) for key in state["items"]):
+    for name, number in itertools.chain(others, *(state["items"] for state in states)):
         used[name].add(number)
     numbers = {}
-    for key, value in sorted(after["items"].items()):
-        collides = key not in before["items"] and other["items"].get(key, value) != value
-        if collides and key[1] < LEAST_OF_PAGE:
-            numbers[key] = next_number(used[key[0]])
-            used[key[0]].add(numbers[key])
-    items = {(key[0], numbers.get(key, key[1])): value for key, value in after["items"].items()}
+    for key in keys:
+        numbers[key] = next_number(used[key[0]])
+        used[key[0]].add(numbers[key])
+    return numbers
+
+
+def with_numbers(state, numbers):
+    """A state whose rows and media have other numbers, by their keys. Mapping rows go along."""
+    items = {(key[0], numbers.get(key, key[1])): value for key, value in state["items"].items()}
     mapped = {
         (name, *(numbers.get(end, end[1]) for end in zip(tables, ids))): tables
-        for (name, *ids), tables in after["mapped"].items()
+        for (name, *ids), tables in state["mapped"].items()
     }
-    return {**after, "items": items, "mapped": mapped}, numbers
+    return {**state, "items": items, "mapped": mapped}
 
 
 def next_number(used):
@@ -84,11 +102,12 @@ def next_number(used):
 class Merge:
     """OTHER with the changes from BEFORE to AFTER that can be made on it (result).
 
-    Those that can't are kept with why (conflicts), and those that it has already are listed (there).
+    Those that can't are kept with why (conflicts), and those that it has already are listed (there). `held` tells of a
+    part and a key why a change of it isn't made at all, None where it may be.
     """
 
-    def __init__(self, before, after, other):
-        self.before, self.after, self.other = before, after, other
+    def __init__(self, before, after, other, held=lambda part, key: None):
+        self.before, self.after, self.other, self.held = before, after, other, held
         self.result = {part: dict(other[part]) for part in PARTS}
         self.changes, self.there, self.conflicts = set(), [], {}
         for part in PARTS:
@@ -104,6 +123,8 @@ class Merge:
             return
         if after == other:
             self.there.append((part, key))
+        elif other == before and (why := self.held(part, key)):
+            self.conflicts[part, key] = why
         elif other == before:
             self.changes.add((part, key))
             put(self.result[part], key, after)

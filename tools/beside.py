@@ -1,0 +1,154 @@
+"""The maps that lie beside a package: which they are, kept in FILE.maps, and the program that draws them for a page.
+
+They are no part of the package, nor of what it promises: the program of maps reads files, and writes none.
+"""
+
+import contextlib
+import json
+import os
+import pathlib
+import select
+import subprocess
+import tempfile
+import time
+
+from gdal_python import MISSING, python_with_gdal
+
+SERVER = pathlib.Path(__file__).resolve().parent / "maps.py"
+# How many seconds all maps may take to open: one on a disk of the network may take long.
+PATIENCE = 30
+
+
+def list_of(file):
+    """The file beside a package that keeps which maps lie behind its work."""
+    return pathlib.Path(f"{file}.maps")
+
+
+def kept_maps(file):
+    """The maps that are kept; ValueError where what stands there is no list of these tools."""
+    try:
+        told = json.loads(list_of(file).read_text(encoding="utf-8"))
+    except FileNotFoundError:
+        return []
+    names = told.get("maps") if isinstance(told, dict) else None
+    if not isinstance(names, list) or not all(isinstance(it, str) and it for it in names):
+        raise ValueError("it has no maps")
+    return names
+
+
+def keep_maps(file, names):
+    """Keeps which maps lie behind a package's work, whole or not at all; none is no file."""
+    path = list_of(file)
+    if not names:
+        path.unlink(missing_ok=True)
+        return
+    with tempfile.NamedTemporaryFile(
+        "w", dir=path.parent, prefix=f".{path.name}-", delete=False, encoding="utf-8"
+    ) as made:
+        try:
+            json.dump({"maps": names}, made, ensure_ascii=False, indent=1)
+            made.flush()
+            os.fsync(made.fileno())
+            os.replace(made.name, path)
+        except BaseException:
+            os.unlink(made.name)
+            raise
+
+
+def name_beside(file, name):
+    """How a map's name is kept: by its way from the package's folder where it lies in that, else by its whole path.
+
+    What is no path, as GPKG:FILE:TABLE, is kept as it is.
+    """
+    if not os.path.exists(name):
+        return name
+    way = os.path.relpath(os.path.abspath(name), os.path.abspath(file.parent))
+    return os.path.abspath(name) if way.split(os.sep)[0] == os.pardir else way
+
+
+def path_of(file, name):
+    """Where a map lies that is kept by its name."""
+    there = os.path.join(os.path.abspath(file.parent), name)
+    return there if os.path.exists(there) else name
+
+
+def chosen(file, named, forgets, tell):
+    """The paths of the maps behind a package's work: those that are kept, but where they are forgotten, and those that
+    are named behind them, and kept from then on. What can't be read or kept is told, and left as it is.
+    """
+    added = [name_beside(file, it) for it in named]
+    try:
+        kept = kept_maps(file)
+        names = list(dict.fromkeys([*([] if forgets else kept), *added]))
+        if names != kept:
+            keep_maps(file, names)
+    except ValueError:
+        tell(f"{list_of(file)}: is no list of maps of these tools, and stays as it is: move it away")
+        names = added
+    except OSError as error:
+        tell(f"Which maps lie behind the work isn't kept: {error}")
+        names = added
+    return [path_of(file, it) for it in names]
+
+
+class Maps:
+    """The program that draws maps for a page. It ends with its standard input, and so with this one, however it ends."""
+
+    def __init__(self, python, paths, origin):
+        self.running = subprocess.Popen(
+            [python, "-B", SERVER, origin, *paths],
+            stdin=subprocess.PIPE,
+            stdout=subprocess.PIPE,
+            stderr=subprocess.DEVNULL,
+            start_new_session=True,
+            bufsize=0,
+        )
+
+    def lines(self):
+        """What the program says until it is ready; fewer lines where it isn't in time, or ends."""
+        until, said = time.monotonic() + PATIENCE, b""
+        while not said.endswith(b"ready\n"):
+            left = until - time.monotonic()
+            if left <= 0 or not select.select([self.running.stdout], [], [], left)[0]:
+                break
+            more = os.read(self.running.stdout.fileno(), 65536)
+            if not more:
+                break
+            said += more
+        return said.decode(errors="replace").splitlines()
+
+    def opened(self):
+        """The address of the maps, and what can't be opened, each with why; None where the program isn't ready."""
+        address, *unopened, ready = self.lines() or [""]
+        return (address, unopened) if address and ready == "ready" else None
+
+    def end(self):
+        with contextlib.suppress(OSError):
+            self.running.stdin.close()
+        self.running.kill()
+        self.running.wait()
+        self.running.stdout.close()
+
+
+@contextlib.contextmanager
+def drawn(paths, origin, tell):
+    """The program that draws maps for the page of an origin; None where there is none, and why is told."""
+    running = begun(paths, origin, tell) if paths else None
+    try:
+        yield running
+    finally:
+        if running:
+            running.end()
+
+
+def begun(paths, origin, tell):
+    """The program, where it can be begun; else why not is told, and the day goes on without it."""
+    python = python_with_gdal()
+    if python is None:
+        tell(f"No map is shown behind the work: {MISSING}")
+        return None
+    try:
+        return Maps(python, paths, origin)
+    except OSError as error:
+        tell(f"No map is shown behind the work: {error}")
+        return None

@@ -1,11 +1,13 @@
 #!/usr/bin/env python3
 """Writes the manual pages and the Debian changelog of the package, from what the programs and CHANGELOG.md say.
 
-    packaging/documents.py program COMMAND PROGRAM VERSION OTHER..   the page of the program, from its help and that of its subcommands
-    packaging/documents.py tool COMMAND SCRIPT VERSION OTHER..       the page of a tool, from what it says by --help
-    packaging/documents.py changelog MAINTAINER                      the changelog, from CHANGELOG.md
+    packaging/documents.py program COMMAND PROGRAM VERSION OTHER..
+    packaging/documents.py tool COMMAND SCRIPT VERSION OTHER..
+    packaging/documents.py changelog MAINTAINER VERSION
 
-OTHER is another command that has a page.
+The page of the program is of its help and that of its subcommands, that of a tool of what it says by --help, and the
+changelog of CHANGELOG.md, its last entry of the package's VERSION and the moment that SOURCE_DATE_EPOCH tells. OTHER is
+another command that has a page.
 
 The text goes to standard output.
 """
@@ -44,7 +46,8 @@ def running(text):
     """The lines of a text by its paragraphs, of which those are kept as they are that are set in."""
     for paragraph in text.strip("\n").split("\n\n"):
         yield ".PP"
-        yield from as_it_is(paragraph) if re.search("^ ", paragraph, re.MULTILINE) else map(escaped, paragraph.splitlines())
+        is_set_in = re.search("^ ", paragraph, re.MULTILINE)
+        yield from as_it_is(paragraph) if is_set_in else map(escaped, paragraph.splitlines())
 
 
 def head(command, version, summary):
@@ -55,7 +58,8 @@ def head(command, version, summary):
 
 def foot(others):
     """The end of a page."""
-    return [".SH SEE ALSO", *(f".BR {escaped(other)} (1)," for other in others), "and the documents in /usr/share/doc/mmpkg."]
+    pages = (f".BR {escaped(other)} (1)," for other in others)
+    return [".SH SEE ALSO", *pages, "and the documents in /usr/share/doc/mmpkg."]
 
 
 def page_of_program(command, program, version, *others):
@@ -72,10 +76,12 @@ def page_of_program(command, program, version, *others):
 
 def page_of_tool(command, script, version, *others):
     told = said_by(sys.executable, "-B", script, "--help").replace(f"tools/{pathlib.Path(script).name}", command)
+    told = told.replace("tools/fill.py", "mmpkg-fill")
     told = re.sub(r"out/mmpkg\s+of\s+this\s+repository,\s+else\s+", "", told)
     summary, usage, *rest = told.strip("\n").split("\n\n")
     yield from head(command, version, summary)
-    yield from (".SH SYNOPSIS", *as_it_is(re.sub("^    ", "", usage, flags=re.MULTILINE)), ".SH DESCRIPTION", *running("\n\n".join(rest)))
+    usage = re.sub("^    ", "", usage, flags=re.MULTILINE)
+    yield from (".SH SYNOPSIS", *as_it_is(usage), ".SH DESCRIPTION", *running("\n\n".join(rest)))
     yield from foot(others)
 
 
@@ -88,8 +94,10 @@ def entries():
         yield version, datetime.datetime(*map(int, day), 12, tzinfo=datetime.timezone.utc), changes
 
 
-def changelog(maintainer):
-    for version, day, changes in entries():
+def changelog(maintainer, last):
+    built = datetime.datetime.fromtimestamp(int(os.environ["SOURCE_DATE_EPOCH"]), datetime.timezone.utc)
+    for number, (version, day, changes) in enumerate(entries()):
+        version, day = (last, built) if number == 0 else (version, day)
         yield f"mmpkg ({version}) unstable; urgency=medium\n"
         for change in changes:
             yield textwrap.fill(" ".join(change.split()), 78, initial_indent="  * ", subsequent_indent="    ")

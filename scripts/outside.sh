@@ -1,11 +1,11 @@
 #!/usr/bin/env bash
 # What the built program shows from outside, by programs that share no code with this repository: the example with its
-# output, the lines of the documents, where the program calls the system for files, the tables of the file, the page and
-# the desk by curl and over sockets, a machine's clock at its ends, a terminal, refused growths of memory, random lists
-# against a model, what turns one package into another; and where the peers are there, the border to the standard, the
-# viewer in a browser, a crew at the page and its command, GDAL and QGIS by WMTS, the day of two crews by lists and by the
-# page, the Debian package in a fresh Debian, and the power of a virtual machine that is cut. The last line is 'N passed, M
-# failed'.
+# output, the lines of the documents, where the program calls the system for files, what a build leaves in its clone, the
+# tables of the file, the page and the desk by curl and over sockets, a machine's clock at its ends, a terminal, refused
+# growths of memory, random lists against a model, what turns one package into another, copies that go out and come home;
+# and where the peers are there, the border to the standard, maps by one command and beside a package, the viewer in two
+# browsers, a crew at the page and its command, GDAL and QGIS by WMTS, the day of two crews by lists and by the page, the
+# Debian package in a fresh Debian, and the power of a virtual machine that is cut. The last line is 'N passed, M failed'.
 #
 #     scripts/outside.sh [PROGRAM]
 #
@@ -92,8 +92,9 @@ example() {
 want sqlite3:sqlite3 curl:curl xxd:xxd cc:gcc python3:python3
 # Peers: what needs one that can't be had is not tried.
 want gdalinfo:gdal-bin gdal2tiles.py:python3-gdal /usr/lib/python3/dist-packages/osgeo:python3-gdal
-want chromium:chromium /usr/share/javascript/leaflet/leaflet.min.js:libjs-leaflet lintian:lintian debootstrap:debootstrap
-want qemu-system-x86_64:qemu-system-x86 busybox:busybox-static /usr/sbin/mkfs.vfat:dosfstools mcopy:mtools cpio:cpio shellcheck:shellcheck pyflakes3:pyflakes3
+want chromium:chromium firefox-esr:firefox-esr /usr/share/javascript/leaflet/leaflet.min.js:libjs-leaflet lintian:lintian debootstrap:debootstrap
+want qemu-system-x86_64:qemu-system-x86 busybox:busybox-static /usr/sbin/mkfs.vfat:dosfstools mcopy:mtools cpio:cpio shellcheck:shellcheck pyflakes3:pyflakes3 desktop-file-validate:desktop-file-utils
+want node:nodejs eslint:eslint tsc:node-typescript
 begin 'the example' example
 tell
 begin 'a power cut' scripts/outside/power_cut.sh
@@ -102,15 +103,28 @@ begin 'the tables of its file' scripts/outside/compare_schema.sh "$folder/exampl
 begin 'the page' scripts/outside/page_curl.sh
 begin 'the desk' scripts/outside/desk.sh
 begin 'calls for files' scripts/outside/file_calls_check.py
+begin 'what a build leaves' scripts/outside/build_check.py
 begin 'the linters' scripts/outside/lint.sh
 begin 'the clock' scripts/outside/clock.sh
 begin 'a terminal' scripts/outside/terminal.py "$MMPKG"
 begin 'refused growths of memory' scripts/outside/refuse_memory.py ${WHOLE:+--whole} "$MMPKG"
 begin 'random lists' scripts/model/random_lists.py
 begin 'the border to the standard' scripts/outside/border.sh
+begin 'maps by one command' scripts/outside/fill.sh
+begin 'maps beside a package' scripts/outside/maps_check.py
+begin 'what lies on the way in' scripts/outside/way_in_test.py
 begin 'what turns one package into another' scripts/outside/kit_between_check.py
+begin 'out and home' scripts/outside/home_check.py
+begin 'kills of out and home' scripts/outside/home_kills_check.py
+begin 'what a homecoming does' scripts/outside/homecoming_test.py
+begin 'weeks of an office' scripts/outside/weeks_check.py
 begin 'the viewer' scripts/outside/viewer.sh
+begin 'the viewer in Firefox' scripts/outside/viewer.sh "$MMPKG" firefox-esr
+begin "the core of the crew's page" scripts/outside/page_core.sh
 begin 'the page of a crew' scripts/outside/crew_page.sh
+begin 'the page of a crew in Firefox' scripts/outside/crew_page.sh "$MMPKG" firefox-esr
+begin "days of a crew's page" scripts/outside/page_days.sh "$MMPKG" chromium --seconds 120
+begin "days of a crew's page in Firefox" scripts/outside/page_days.sh "$MMPKG" firefox-esr --seconds 120
 begin "the crew's command" scripts/outside/crew_check.py
 begin 'the day of a crew at the page' scripts/outside/crew_day.sh
 begin 'GDAL and QGIS live' scripts/outside/wmts.sh

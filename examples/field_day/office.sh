@@ -11,7 +11,7 @@ cd "$folder" || exit 2
 cp "$top"/examples/field_day/{colours.txt,shaded.vrt} .
 # Moments of 15 June 2026, as milliseconds since 1970.
 # shellcheck disable=SC2034  # they stand in what show evaluates
-dawn=1781496000000 morning=1781503200000 noon=1781524800000 evening=1781542800000
+dawn=1781496000000 morning=1781503200000 noon=1781524800000
 
 mmpkg() {
     "$MMPKG" "$@"
@@ -54,9 +54,15 @@ office() {
     show 'echo publish,viewer | mmpkg run office.mmpkg --at $dawn'
 }
 
-# Takes a crew's work into the office's package: NAME
-home() {
-    show "mmpkg run office.mmpkg --at \$evening < $1_home/before.csv"
-    show "mmpkg kit office.mmpkg $1_home $1_home/$1_home --at \$evening"
-    show "echo publish,$1_home | mmpkg run office.mmpkg --at \$evening"
+# What an office sees of its copies, without the word by chance that each has: north_1_q7x2ab is north_1_WORD.
+marks() {
+    sed -E 's/((north|south)_1)_[a-z0-9]{6}/\1_WORD/g'
+}
+
+# Takes both crews' work home.
+evening() {
+    echo
+    echo "The work comes home, by one command a crew. Both saw boundary stone 7: the office keeps what the first tells of it until it decides."
+    show 'come_home.py office.mmpkg north_1.mmpkg 2>&1'
+    show 'come_home.py office.mmpkg south_1.mmpkg 2>&1 | marks || echo "status $?"'
 }

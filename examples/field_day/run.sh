@@ -38,41 +38,35 @@ crew() {
     local name=$1 seed=$2 colour=$3 row=$4 tiles=$5
     echo
     echo "The crew in the $name: a copy, a list, and a kit. The program is killed five times in each."
-    show "cp office.mmpkg $name.mmpkg && cp office.mmpkg-wal $name.mmpkg-wal"
+    show "hand_out.py office.mmpkg $name"
     show "land.py crew $name terrain.asc"
     show "cp picture.tif $name.tif && draw $name.tif $name $colour"
     show "records $name.tif $row >> $name.csv"
     show "tiles $name.tif tiles_$name $tiles"
     show "make_kit.py tiles_$name base ${name}_kit ${name}_kit"
     show "awk '{ print NR + 6 \",\" \$0 }' ${name}_more.csv >> ${name}_kit/kit.csv"
-    show "killed.py run $name.mmpkg $name.csv $seed \$morning"
-    show "mmpkg check $name.mmpkg"
-    show "mmpkg run $name.mmpkg --at \$morning < $name.csv | tail -n 1"
-    show "echo edition,${name}_kit | mmpkg run $name.mmpkg --at \$noon"
-    show "killed.py kit $name.mmpkg ${name}_kit ${name}_kit $seed \$noon"
-    show "mmpkg check $name.mmpkg"
-    show "mmpkg kit $name.mmpkg ${name}_kit ${name}_kit --at \$noon"
-    show "echo publish,${name}_kit | mmpkg run $name.mmpkg --at \$noon"
-    show "mmpkg list $name.mmpkg"
+    show "killed.py run ${name}_1.mmpkg $name.csv $seed \$morning"
+    show "mmpkg check ${name}_1.mmpkg"
+    show "mmpkg run ${name}_1.mmpkg --at \$morning < $name.csv | tail -n 1"
+    show "echo edition,${name}_kit | mmpkg run ${name}_1.mmpkg --at \$noon"
+    show "killed.py kit ${name}_1.mmpkg ${name}_kit ${name}_kit $seed \$noon"
+    show "mmpkg check ${name}_1.mmpkg"
+    show "mmpkg kit ${name}_1.mmpkg ${name}_kit ${name}_kit --at \$noon"
+    show "echo publish,${name}_kit | mmpkg run ${name}_1.mmpkg --at \$noon"
+    show "mmpkg list ${name}_1.mmpkg | marks"
 }
 
-show 'cp office.mmpkg before.mmpkg && cp office.mmpkg-wal before.mmpkg-wal'
 crew north 7 '208 52 44' 0 '0/0 1/0 2/0 1/1 2/1 3/1'
 crew south 11 '74 62 168' 1 '1/2 2/2 3/2 0/3 1/3 3/3'
 
-echo
-echo "The work comes home. Both crews saw boundary stone 7, and tell other heights: the office keeps the first until it decides."
-show 'kit_between.py before.mmpkg north.mmpkg north_home north_home --onto office.mmpkg 2>&1'
-home north
-show 'kit_between.py before.mmpkg south.mmpkg south_home south_home --onto office.mmpkg 2>&1 || echo "status $?"'
-show 'cat south_home/conflicts.csv'
-home south
-show 'mmpkg list office.mmpkg'
+evening
+show 'cat office.mmpkg.crews/south_1_*.conflicts/conflicts.csv'
+show "mmpkg list office.mmpkg | awk '{ print \$1, \$2, \$3 }' | marks"
 show 'look.py office.mmpkg 11 after.png'
 
 echo
 echo "Out to GDAL, which finds the colours of both crews and what they wrote."
-show 'export_standard.py office.mmpkg out.gpkg 2>&1'
+show 'export_standard.py office.mmpkg out.gpkg 2>&1 | marks'
 show "gdalinfo -nomd out.gpkg | grep -E '^(Driver|Size|Origin|Pixel Size)'"
 show 'gdallocationinfo -valonly -geoloc out.gpkg 501210 5601640 | paste -sd " "'
 show 'gdallocationinfo -valonly -geoloc out.gpkg 500610 5600560 | paste -sd " "'

@@ -14,9 +14,11 @@ import argparse
 import contextlib
 import csv
 import hashlib
+import io
 import pathlib
 import random
 import re
+import shlex
 import shutil
 import sqlite3
 import subprocess
@@ -24,13 +26,15 @@ import sys
 import tempfile
 
 import page_map
-from checks import PROGRAM, TOP, end, expect, mmpkg, run, run_checks
+from checks import PROGRAM, TOP, content_of, end, expect, mmpkg, run, run_checks
 
 TOOLS = TOP / "tools"
 sys.path.insert(0, str(TOOLS))
 import import_standard  # noqa: E402
 import points  # noqa: E402
-from border import KIT_PIECES, UNITS_OF_VERSION, UNITS_PER_METRE, Piece, media_piece, record, tile_piece, whole_units  # noqa: E402
+from border import (  # noqa: E402
+    KIT_PIECES, UNITS_OF_VERSION, UNITS_PER_METRE, Piece, Refused, media_piece, record, tile_piece, whole_units,
+)  # fmt: skip
 
 UTM = 'PROJCS["a grid",GEOGCS["g",DATUM["d",SPHEROID["s",6378137,298]],PRIMEM["p",0],UNIT["degree",0.01745]],UNIT["metre",1]]'
 NOT_COMPARED = {("gpkg_contents", "last_change"), ("gpkgext_relations", "id"), ("mm_tiles", "blob"), ("mm_media", "blob")}
@@ -105,8 +109,13 @@ def expect_same_content(file, out):
         expect(after.execute(changed).fetchall(), before.execute(changed).fetchall(), "last_change")
 
 
-def export(file, out):
-    return tool("export_standard.py", file, out)[1]
+def untold(told):
+    """What an import tells, but for the line that says for which packages it is."""
+    return re.sub("next: FILE is one without the tables .*\n", "", told)
+
+
+def export(file, out, *words):
+    return tool("export_standard.py", file, out, *words)[1]
 
 
 def validate(out):
@@ -135,12 +144,12 @@ def take_in(commands, file, folder, moment=0):
 
 def expect_round_trip(file, folder, *kit, valid=True, moment=0):
     """What is exported and imported again is an equal package, where all its tables were changed at one moment."""
-    export(file, folder / "out.gpkg")
+    export(file, folder / "out.gpkg", "--all-tables")
     if valid:
         validate(folder / "out.gpkg")
     expect_same_content(file, folder / "out.gpkg")
     commands, told = tool("import_standard.py", folder / "out.gpkg", folder / "list.csv", "--all-zooms", *kit)
-    expect(told, "", "what the import tells")
+    expect(untold(told), "", "what the import tells")
     mmpkg("init", folder / "back.mmpkg")
     take_in(commands, folder / "back.mmpkg", folder, moment)
     expect_equal(file, folder / "back.mmpkg")
@@ -202,7 +211,7 @@ def check_round_trip_of_the_examples(folder):
     mmpkg("kit", folder / "a.mmpkg", "autumn", TOP / "examples" / "autumn", "--at", "0")
     mmpkg("run", folder / "a.mmpkg", "--at", "0", given=b"publish,autumn\n")
     told = export(folder / "a.mmpkg", folder / "told.gpkg")
-    assert "note: edition autumn, edition spring: left out, published\n" in told, f"the editions aren't named: {told}"
+    expect(told.splitlines()[-1], "note: published editions (2): left out: what they brought is here", "the last note")
     (folder / "trip").mkdir()
     expect_round_trip(folder / "a.mmpkg", folder / "trip", "--kit", "again", folder / "trip" / "kit", valid=False)
 
@@ -556,11 +565,90 @@ def check_bounds_are_kept(folder):
         validate(folder / f"out_{number}.gpkg")
         assert "Size is 1500, 1100" in run("gdalinfo", folder / f"out_{number}.gpkg")[0], "the size by GDAL"
     expect_equal(folder / "0.mmpkg", folder / "1.mmpkg")
-    with contextlib.closing(sqlite3.connect(folder / "out_1.gpkg")) as opened:
+    export(folder / "1.mmpkg", folder / "all.gpkg", "--all-tables")
+    with contextlib.closing(sqlite3.connect(folder / "all.gpkg")) as opened:
         opened.execute("UPDATE gpkg_contents SET max_x = max_x - 100 WHERE table_name = 'base'")
         opened.commit()
-    _, told = tool("import_standard.py", folder / "out_1.gpkg", folder / "2.csv")
-    expect(told, "note: bounds of base: they don't come in: map_bounds of IN.gpkg tells others, or none\n", "what is told of other bounds")
+    _, told = tool("import_standard.py", folder / "all.gpkg", folder / "2.csv")
+    expect(untold(told), "note: bounds of base: they don't come in: map_bounds of IN.gpkg tells others, or none\n", "what is told of other bounds")
+
+
+def check_without_optional_tables(folder):
+    """A GeoPackage without the tables that the standard doesn't ask for comes in whole, as far as they told of nothing."""
+    new_package(folder / "a.mmpkg", "table,spots,attributes,Spots\nrow,spots,7,Well,,3\n")
+    export(folder / "a.mmpkg", folder / "in.gpkg")
+    for table in ("gpkg_extensions", "gpkgext_relations", "gpkg_tile_matrix_set", "gpkg_tile_matrix"):
+        with contextlib.closing(sqlite3.connect(folder / "in.gpkg")) as opened:
+            opened.execute(f"DROP TABLE IF EXISTS {table}")
+        tool("import_standard.py", folder / "in.gpkg", folder / f"{table}.csv")
+        expect((folder / f"{table}.csv").read_text(), "table,spots,attributes,Spots\nrow,spots,7,Well,,3\n", f"the list without {table}")
+    new_package(folder / "b.mmpkg", nine_tiles())
+    export(folder / "b.mmpkg", folder / "map.gpkg")
+    with contextlib.closing(sqlite3.connect(folder / "map.gpkg")) as opened:
+        opened.execute("DROP TABLE gpkg_extensions")
+    commands, _ = tool("import_standard.py", folder / "map.gpkg", folder / "map.csv")
+    mmpkg("init", folder / "back.mmpkg")
+    take_in(commands, folder / "back.mmpkg", folder)
+    expect_equal(folder / "b.mmpkg", folder / "back.mmpkg")
+
+
+def check_nothing_is_written_over(folder):
+    """What other rows, media and tiles of FILE an import would write over is named, and nothing is made but with --replace."""
+    new_package(folder / "a.mmpkg", nine_tiles() + "row,spots,8,Gate,,1\nrow,spots,9,Oak,,1\nrow,spots,11,Ash,,1\n")
+    export(folder / "a.mmpkg", folder / "in.gpkg")
+    with contextlib.closing(sqlite3.connect(folder / "in.gpkg")) as opened:
+        opened.execute("UPDATE spots SET title = 'WP ' || id WHERE id <> 9")
+        opened.execute("UPDATE photos SET data = x'ffd8ff'")
+        opened.execute("UPDATE base SET tile_data = x'ffd8ff' WHERE tile_column = 1 AND tile_row = 1")
+        opened.commit()
+    files = {file: content_of(file) for file in sorted(folder.iterdir())}
+    for kit in ((), ("--kit", "more", folder / "kit")):
+        words = "import_standard.py", folder / "in.gpkg", folder / "list.csv", *kit, "--into", folder / "a.mmpkg", "--key", "id"
+        _, told = tool(*words, status=2)
+        lines = [f"{folder / 'a.mmpkg'}: has other {it}" for it in ("media of photos under these numbers: 1", "rows of spots under these numbers: 7 to 8, 11",
+                                                                   "tiles of base under these numbers: 0/1/1")]
+        expect(told.splitlines(), [*lines, "nothing was made; --replace writes over them"], "what is told")
+        expect({file: content_of(file) for file in sorted(folder.iterdir())}, files, "files")
+    commands, told = tool(*words, "--replace")
+    expect(told, "note: system 25832: FILE has it with other texts, and keeps them\n", "what is told with --replace")
+    expect([line.split()[1] for line in commands.splitlines()], ["run", "kit", "publish,more"], "commands")
+    _, told = tool("import_standard.py", folder / "in.gpkg", folder / "new.csv")
+    said = "next: FILE is one without the tables base, photos, spots; where it has some, --into FILE names it, and writes over nothing\n"
+    expect(told, said, "what is told where no package is named")
+    tool("import_standard.py", folder / "in.gpkg", folder / "no.csv", "--replace", status=2)
+    expect((folder / "list.csv").read_text(), "edition,more\n", "the list, where the layout stands")
+    new_package(folder / "other.mmpkg", "table,else,attributes,Else\nrow,else,7,Well,,1\n")
+    tool("import_standard.py", folder / "in.gpkg", folder / "other.csv", "--into", folder / "other.mmpkg")
+
+
+def check_numbers_of_a_second_layer(folder):
+    """A second layer gets the numbers behind the last with its photos, or those from --first-id on, or keeps its own by --key."""
+    layer = "table,spots,attributes,Spots\ntable,photos,media,Photos\nrelation,spots_photos,spots,photos,media\n"
+    new_package(folder / "a.mmpkg", layer + "row,spots,1,Stone,,0\nrow,spots,2,Stone,,0\nmedia,photos,1,a/b,00\nmap,spots_photos,1,1\n")
+    new_package(folder / "b.mmpkg", layer + "row,spots,1,WP 1,,0\nrow,spots,7,WP 2,,0\nmedia,photos,1,a/b,01\nmap,spots_photos,7,1\n")
+    export(folder / "b.mmpkg", folder / "in.gpkg")
+    stones = mmpkg("show", folder / "a.mmpkg", "spots")
+    commands, told = tool("import_standard.py", folder / "in.gpkg", folder / "list.csv", "--into", folder / "a.mmpkg")
+    note = "behind the last that FILE has; --key id keeps those of IN.gpkg"
+    expect(told, f"note: photos: its numbers are 2 to 2, spots: its numbers are 3 to 4: {note}\n", "what is told")
+    take_in(commands, folder / "a.mmpkg", folder)
+    expect(mmpkg("show", folder / "a.mmpkg", "spots"), stones + "row,spots,3,WP 1,,0\nrow,spots,4,WP 2,,0\n", "rows")
+    with contextlib.closing(sqlite3.connect(folder / "a.mmpkg")) as opened:
+        expect(opened.execute("SELECT base_id, related_id FROM mm_map ORDER BY base_id").fetchall(), [(1, 1), (4, 2)], "mapping rows")
+    _, told = tool("import_standard.py", folder / "in.gpkg", folder / "over.csv", "--into", folder / "a.mmpkg", "--first-id", 4, status=2)
+    expect(told.splitlines()[0], f"{folder / 'a.mmpkg'}: has other rows of spots under these numbers: 4", "what is told of --first-id")
+    for words in (("--into", folder / "a.mmpkg"), ()):
+        tool("import_standard.py", folder / "in.gpkg", folder / f"first_{len(words)}.csv", "--first-id", 101, *words)
+        lines = (folder / f"first_{len(words)}.csv").read_text().splitlines()
+        wanted = ["media,photos,101,a/b,01", "row,spots,101,WP 1,,0", "row,spots,102,WP 2,,0", "map,spots_photos,102,101"]
+        expect(lines[-4:], wanted, "the list of --first-id")
+    tool("import_standard.py", folder / "in.gpkg", folder / "no.csv", "--first-id", 0, status=2)
+    new_package(folder / "c.mmpkg", "table,spots,media,Spots\n")
+    _, told = tool("import_standard.py", folder / "in.gpkg", folder / "no.csv", "--into", folder / "c.mmpkg", status=2)
+    expect(told, f"{folder / 'c.mmpkg'}: table spots stands there otherwise; --table gives a table another name\n", "what is told of another kind")
+    new_package(folder / "d.mmpkg", f"table,spots,attributes,Spots\nrow,spots,{2**53},Last,,0\n")
+    _, told = tool("import_standard.py", folder / "in.gpkg", folder / "no.csv", "--into", folder / "d.mmpkg", status=2)
+    expect(told, "no number is left behind 9007199254740992; --first-id names another to begin with\n", "what is told behind the last number")
 
 
 HANDED_OVER = """
@@ -610,35 +698,238 @@ def check_what_a_gis_hands_over(folder):
 
 def remedy(told, command):
     """The command that a message tells, up to the word that goes on behind it."""
-    return re.search(f"; ({command} .*?) (?:makes|takes) ", told)[1]
+    found = re.search(rf"; ((?:iconv [^|]* \| )?[^ ;]*{command} .*?) (?:makes|takes|brings) ", told)
+    assert found, f"no {command} is told: {told}"
+    return found[1]
+
+
+def run_remedy(told, folder, command="ogr2ogr"):
+    """Runs a command that was told, as it is told."""
+    run("bash", "-c", f"set -o pipefail; cd '{folder}' && rm -f rows.gpkg && {remedy(told, command)}")
+
+
+def rows_in(listed):
+    """The records of rows in a list."""
+    with open(listed, encoding="utf-8", newline="") as it:
+        return [line for line in csv.reader(it) if line[0] == "row"]
 
 
 def check_remedies(folder):
-    """The commands that are told for a map in degrees of arc or of Web Mercator, and for a layer of features, bring what comes in."""
+    """The commands that are told for a map in degrees of arc or of Web Mercator, and for a layer of features, run as they are told."""
     for system, corner, pixel in (("EPSG:3857", (1_001_875.4, 6_446_275.8), 2.388657133911758), ("EPSG:4326", (9, 50.5), 0.00001)):
         where = folder / system[5:]
         where.mkdir()
         standard_of(geotiff(where, 500, 300, system, corner, pixel), where / "in.gpkg", "base")
         _, told = tool("import_standard.py", where / "in.gpkg", where / "none.csv", status=1)
-        run("bash", "-c", f"cd '{where}' && {remedy(told, 'gdalwarp')} -q")
-        standard_of(where / "whole.tif", where / "whole.gpkg", "base")
-        tool("import_standard.py", where / "whole.gpkg", where / "list.csv")
+        run("bash", "-c", f"cd '{where}' && " + remedy(told, "fill.py").replace("FILE", "a.mmpkg"))
+        assert re.match("base +two ", mmpkg("list", where / "a.mmpkg")), "the map isn't in"
     for kind, shape, note in (("points", POINT, "@25832:571666.447504/5539109.815176"), ("areas", AREA, "")):
         where = folder / kind
         where.mkdir()
         (where / "in.json").write_text(shape)
         run("ogr2ogr", "-f", "GPKG", where / "in.gpkg", where / "in.json", "-nln", kind)
         _, told = tool("import_standard.py", where / "in.gpkg", where / "none.csv", status=1)
-        run("bash", "-c", f"cd '{where}' && {remedy(told, 'ogr2ogr')}".replace("COLUMN", "name"))
+        run_remedy(told, where)
         tool("import_standard.py", where / "rows.gpkg", where / "list.csv")
         lines = [line for line in (where / "list.csv").read_text().splitlines() if not line.startswith(("srs,", '"'))]
         expect(lines[-2:], [f"table,{kind},attributes,{kind}", f"row,{kind},1,x,{note},0"], f"the list of {kind}")
 
 
+# By the name of a file of odd_files.py what its import ends with, and what it tells; all others end with 0.
+ODD = {
+    "any_shape.gpkg": (1, "left out: row 1 of spots: its geometry is no point"), "broken_view.gpkg": (1, "it can't be read: no such table"),
+    "cut.gpkg": (2, "malformed"), "few_matrix_columns.gpkg": (1, "no such column: matrix_width"),
+    "degrees.gpkg": (1, "-t_srs EPSG:25832"), "few_columns.gpkg": (2, "no such column: identifier"),
+    "head.gpkg": (2, "file is not a database"), "lines.gpkg": (1, "a package has no LINESTRING"), "map.mbtiles": (2, "is MBTiles and no GeoPackage"),
+    "map.png": (2, "is a PNG and no GeoPackage"), "map.tif": (2, "is a TIFF and no GeoPackage"), "map.vrt": (2, "is a VRT and no GeoPackage"),
+    "no_geometry_columns.gpkg": (1, "a package has no geometry"), "no_kind.gpkg": (1, "a package has no geometry"),
+    "no_matrix_sets.gpkg": (1, "it has no matrix set"), "no_such_column.gpkg": (1, "a package has no geometry"),
+    "no_system.gpkg": (1, "-s_srs EPSG:4326"), "no_systems.gpkg": (1, "its system 25832 is geographic, or was left out"),
+    "no_table.gpkg": (1, "there is no such table"), "no_texts.gpkg": (1, "left out: table None: its name is no text"),
+    "nulls.gpkg": (1, "coalesce(amount, 0) AS amount"), "odd_extent.gpkg": (1, "isn't whole in micrometres"),
+    "odd_matrices.gpkg": (1, "no matrix was taken"), "odd_relations.gpkg": (1, "left out: relation None"),
+    "odd_systems.gpkg": (1, "left out: system None"), "ok.geojson": (2, "ogr2ogr -f GPKG rows.gpkg"), "ok.sqlite": (2, "ogr2ogr -f GPKG rows.gpkg"),
+    "quotes.gpkg": (1, "its name is no name of a package"), "several.gpkg": (1, "-explodecollections"), "short_relations.gpkg": (2, "no such column"),
+    "south.gpkg": (1, "-t_srs EPSG:32760"), "stones.gpkg": (1, "--columns takes them all"), "table.gpkg": (1, "--columns takes them all"),
+    "two_geometries.gpkg": (1, "--columns takes them all"), "view.gpkg": (1, "left out: table 'more'"),
+}
+# By the name of a file the rows that come in behind the command that its import tells.
+BROUGHT = {
+    "degrees": [["1", "Oak", "@25832:535460.445813/5594344.786006 old", "7"]], "no_system": [["1", "Oak", "@25832:535460.445813/5594344.786006 old", "7"]],
+    "lines": [["1", "Lane", "", "0"]], "nulls": [["1", "", "@25832:500001/5600001", "0"]], "south": [["1", "Oak", "@32760:290533.818405/5430475.829403 old", "7"]],
+    "several": [["1", "Oak", "@25832:1/2 old", "7"], ["2", "Oak", "@25832:3/4 old", "7"]], "table": [["1", "Ada", "", "0"]],
+    "stones": [["1", "S 1", "@25832:500000.5/5600000.25", "0"], ["2", "", "@25832:1/2", "0"]], "no_kind": [["1", "Oak", "old", "7"]],
+}  # fmt: skip
+
+
+def imported(*words, status=0):
+    """What an import tells on standard error, which has to end with the status; it has no process of its own, since there are many."""
+    told, given = io.StringIO(), sys.argv
+    try:
+        sys.argv = ["import_standard.py", *map(str, words)]
+        with contextlib.redirect_stdout(io.StringIO()), contextlib.redirect_stderr(told):
+            found = import_standard.main()
+    except Refused as refused:
+        found = refused.status
+        told.write(f"{refused}\n")
+    except Exception as error:
+        raise AssertionError(f"{words[0]}: a traceback: {error!r}") from error
+    finally:
+        sys.argv = given
+    expect(found, status, f"the status of the import of {words[0]}: {told.getvalue()}")
+    return told.getvalue()
+
+
+def check_odd_files(folder):
+    """Files of many kinds, as GDAL makes them and odd ones, end in words; what of them is whole comes in."""
+    run(python_with_gdal, TOP / "scripts" / "outside" / "odd_files.py", folder)
+    files = sorted(it for it in folder.iterdir() if it.suffix != ".xml")
+    expect(set(ODD) <= {it.name for it in files}, True, "whether all files are there")
+    for file in files:
+        status, words = ODD.get(file.name, (0, ""))
+        told = imported(file, folder / f"{file.name}.csv", status=status)
+        assert words in told, f"{words!r} isn't told of {file.name}: {told}"
+        expect((folder / f"{file.name}.csv").exists(), status < 2, f"whether {file.name} has a list")
+    expect((folder / "few_matrix_columns.gpkg.csv").read_text().count("map"), 0, "lines of a map that can't be read")
+    for name in ("ok", "no_extent", "no_extensions", "trigger", "generated", "no_rowid"):
+        expect(rows_in(folder / f"{name}.gpkg.csv")[-1], ["row", "spots", "1", "Oak", "@25832:500000.5/5600000.25 old", "7"], f"the row of {name}")
+    for name, rows in BROUGHT.items():
+        run_remedy(imported(folder / f"{name}.gpkg", folder / f"{name}_none.csv", status=1), folder)
+        imported(folder / "rows.gpkg", folder / f"{name}.csv")
+        expect([it[2:] for it in rows_in(folder / f"{name}.csv")], rows, f"rows of {name} behind the command that was told")
+
+
+def check_columns_go_in_and_out(folder):
+    """With --columns a layer comes in with all its columns, by its own key, and goes out with them, letter by letter."""
+    run(python_with_gdal, TOP / "scripts" / "outside" / "odd_files.py", folder)
+    with contextlib.closing(sqlite3.connect(folder / "stones.gpkg")) as opened:
+        for (name,) in opened.execute("SELECT name FROM sqlite_master WHERE type = 'trigger' AND tbl_name = 'stones'").fetchall():
+            opened.execute(f"DROP TRIGGER {name}")
+        opened.execute("UPDATE stones SET fid = fid + 100")
+        opened.commit()
+    commands, told = tool("import_standard.py", folder / "stones.gpkg", folder / "list.csv", "--columns")
+    expect([it[2:] for it in rows_in(folder / "list.csv")],
+           [["101", "S 1", '@25832:500000.5/5600000.25 height=12.5 kept_by="the ""Post""" day=2026-01-02', "0"], ["102", "", "@25832:1/2", "0"]], "rows")
+    mmpkg("init", folder / "a.mmpkg")
+    take_in(commands, folder / "a.mmpkg", folder)
+    mmpkg("run", folder / "a.mmpkg", given=b"row,stones,103,New,@25832:5/6 by hand height=7 x=007 Note=b,2\n")
+    tool("export_standard.py", folder / "a.mmpkg", folder / "out.gpkg", "--points", "stones", "--columns", "stones")
+    validate(folder / "out.gpkg")
+    run("ogr2ogr", "-f", "CSV", "-lco", "GEOMETRY=AS_XY", folder / "seen.csv", folder / "out.gpkg", "stones")
+    with open(folder / "seen.csv", encoding="utf-8", newline="") as it:
+        expect(list(csv.reader(it)), [["X", "Y", "title", "note", "amount", "height", "kept_by", "day", "x", "Note_2"],
+                                      ["500000.5", "5600000.25", "S 1", "", "0", "12.5", 'the "Post"', "2026-01-02", "", ""],
+                                      ["1", "2", "", "", "0", "", "", "", "", ""],
+                                      ["5", "6", "New", "by hand", "2", "7", "", "", "007", "b"]], "columns that GDAL sees")
+    commands, _ = tool("import_standard.py", folder / "out.gpkg", folder / "again.csv", "--columns", "--into", folder / "a.mmpkg", "--key", "id", "--replace")
+    expect([it[2:4] for it in rows_in(folder / "again.csv")], [["101", "S 1"], ["102", ""], ["103", "New"]], "rows that come back to their own")
+    names = shlex.split(re.search("--table (.*) gives it one", tool("import_standard.py", folder / "quotes.gpkg", folder / "none.csv", status=1)[1])[1])
+    tool("import_standard.py", folder / "quotes.gpkg", folder / "quotes.csv", "--table", *names, "--columns")
+    expect([it[1:] for it in rows_in(folder / "quotes.csv")], [["it_s_x", "1", "a", '@25832:1/2 a__b_=1 select=2.5', "0"]], "odd names of columns")
+    _, told = tool("import_standard.py", folder / "quotes.gpkg", folder / "none_2.csv", "--table", *names, status=1)
+    run_remedy(told, folder)
+    tool("import_standard.py", folder / "rows.gpkg", folder / "rows.csv")
+    expect([it[1:] for it in rows_in(folder / "rows.csv")], [["it_s_x", "1", "a", "@25832:1/2", "0"]], "the row of the command that was told")
+
+
+STONES = "Punkt;Höhe;Rechtswert;Hochwert;Art\n101;12,5;565100,25;5933200,5;Grenzstein alt\n102;;565101,25;5933201,5;Münze\n"
+WAYPOINTS = ('<?xml version="1.0"?><gpx version="1.1" creator="x" xmlns="http://www.topografix.com/GPX/1/1">'
+             "<wpt lat='50.5' lon='9.1'><name>WP 1</name><desc>by 'it</desc></wpt></gpx>")
+
+
+def check_texts_of_devices(folder):
+    """A surveyor's text with semicolons, decimal commas and Latin-1, and waypoints of a GPX, come in behind the command that is told."""
+    wanted = {"stones 1.csv": (STONES.encode("latin1"), ["101", '@25832:565100.25/5933200.5 Höhe=12,5 Art="Grenzstein alt"'],
+                               ["102", '@25832:565101.25/5933201.5 Höhe="" Art=Münze']),
+              "way.gpx": (WAYPOINTS.encode(), ["WP 1", "@25832:507092.105557/5594230.17033 desc=\"by 'it\""])}
+    for name, (data, *rows) in wanted.items():
+        (folder / name).write_bytes(data)
+        _, told = tool("import_standard.py", folder / name, folder / "none.csv", status=2)
+        run_remedy(told, folder)
+        tool("import_standard.py", folder / "rows.gpkg", folder / f"{name}.list", "--columns")
+        expect([it[3:5] for it in rows_in(folder / f"{name}.list")], rows, f"rows of {name}")
+
+
+def check_photos_as_files(folder):
+    """Photos go out as files that are named by their rows; nothing is overwritten."""
+    png = page_map.png_of((1, 2, 3))
+    lines = [["media", "photos", number, content_type, data.hex()] for number, content_type, data in
+             ((2, "image/jpeg", b"\xff\xd8\xff"), (3, "application/pdf", b"%PDF"), (4, "x/y", b"z"))]
+    lines += [["row", "spots", 8, "../Oak/ß", "", 0], ["map", "spots_photos", 7, 2], ["map", "spots_photos", 8, 1], ["map", "spots_photos", 8, 3]]
+    new_package(folder / "a.mmpkg", nine_tiles() + "".join(map(record, lines)))
+    words = "export_standard.py", folder / "a.mmpkg", folder / "out.gpkg", "--photos", folder / "my photos"
+    tool(*words)
+    found = {str(it.relative_to(folder / "my photos")): it.read_bytes() for it in (folder / "my photos").rglob("*") if it.is_file()}
+    listed = found.pop("photos.csv").decode().splitlines()
+    expect(found, {"spots/Well-7.png": png, "spots/Well-7_2.jpg": b"\xff\xd8\xff", "spots/Oak_ß-8.png": png, "spots/Oak_ß-8_2.pdf": b"%PDF",
+                   "photos/row-4.bin": b"z"}, "files")
+    expect((listed[1], len(listed)), ("spots/Well-7.png,spots,7,Well,photos,1,image/png", 6), "the list")
+    (folder / "out.gpkg").unlink()
+    expect(tool(*words, status=2)[1], f"{folder}/my photos: is there, and is not overwritten; remove it, or choose another name\n", "what is told")
+    expect((folder / "out.gpkg").exists(), False, "whether OUT was made")
+
+
+def check_slips_are_said(folder):
+    """Rows whose place is none, and rows whose place is on no map, are named, and no others."""
+    notes = ["@25832:100,5/50", "@25832:100/50weg", "@5600100/100", "@25832:0/192", "@100.5/50", "a@b.de", "see @home", ""]
+    lines = [["row", "spots", 11 + number, "x", note, 0] for number, note in enumerate(notes)]
+    new_package(folder / "a.mmpkg", nine_tiles() + "".join(map(record, lines)))
+    _, told = tool("export_standard.py", folder / "a.mmpkg", folder / "out.gpkg")
+    wanted = ["note: row 11 of spots, row 12 of spots, row 17 of spots: a word of its note begins with @, and is no place",
+              "note: row 13 of spots: its place is on no map"]
+    expect(sorted(told.splitlines()), wanted, "what is told")
+    lines = [["row", "spots", 100 + number, "x", "@x", 0] for number in range(30)]
+    mmpkg("run", folder / "a.mmpkg", given="".join(map(record, lines)).encode())
+    assert ", row 106 of spots and 23 more: a word" in tool("export_standard.py", folder / "a.mmpkg", folder / "out_2.gpkg")[1], "how many there are"
+
+
 PLACES = [(1, "Spring", "@25832:500000.5/5600000.25 by the road", 3), (2, "Gate", "", 0), (3, "Oak", "@25832:-7/0.000001", -5),
           (4, "Plan", "@7:10/20 of the plan", 0), (5, "Late", "seen @500100/5600100 by", 1), (6, "No", "@25832:1,5/2 @x/y a@1/2", 0),
           (2**53, "Far", "@25832:999999999.999999/-999999999.999999 \"x\"\nüß", 10**15)]  # fmt: skip
-NOTED_PLACES = "note: row 4 of spots: its place is of system 7; it stays in its note\n"
+SLIPS = ("row 1 of spots, row 3 of spots, row 4 of spots, row 5 of spots, row 9007199254740992 of spots: its place is on no map",
+         "row 6 of spots: a word of its note begins with @, and is no place")
+
+
+PAGE_AND_BOUNDS = """table,viewer,media,Map viewer
+media,viewer,1,text/html,00
+media,viewer,4,application/json,{known}
+table,map_bounds,attributes,Bounds of maps
+row,map_bounds,1,base,{bounds},0
+table,pages,media,Pages
+media,pages,1,text/html,00
+edition,draft
+"""
+OWN = "left out, since only a package has a use for it; --all-tables takes it along"
+
+
+def tables_in(out):
+    with contextlib.closing(sqlite3.connect(out)) as opened:
+        return [name for (name,) in opened.execute("SELECT table_name FROM gpkg_contents ORDER BY table_name")]
+
+
+def check_what_only_a_package_has_a_use_for(folder):
+    """The crew's page and bounds that the contents tell stay out but at the asking; other pages and bounds go out."""
+    new_package(folder / "a.mmpkg", nine_tiles())
+    with contextlib.closing(sqlite3.connect(folder / "a.mmpkg")) as opened:
+        extent = opened.execute("SELECT min_x, min_y, max_x, max_y FROM gpkg_tile_matrix_set").fetchone()
+    bounds = [extent[0], extent[1], extent[2] - 1_000_000, extent[3]]
+    known = b'{"package":"0123456789abcdef"}'.hex()
+    lists = PAGE_AND_BOUNDS.format(known=known, bounds=" ".join(map(str, bounds)))
+    mmpkg("run", folder / "a.mmpkg", "--at", 0, given=lists.encode())
+    told = export(folder / "a.mmpkg", folder / "out.gpkg")
+    lines = [f"note: table map_bounds, table viewer: {OWN}", "note: edition draft: left out, open with pieces: 0"]
+    expect(told.splitlines(), lines, "what is told")
+    expect(tables_in(folder / "out.gpkg"), ["base", "pages", "photos", "spots"], "tables")
+    validate(folder / "out.gpkg")
+    tool("import_standard.py", folder / "out.gpkg", folder / "list.csv", "--all-zooms")
+    end_of_row = f",base,{' '.join(map(str, bounds))},0"
+    rows = [line for line in (folder / "list.csv").read_text().splitlines() if line.startswith("row,map_bounds,")]
+    expect([line.endswith(end_of_row) for line in rows], [True], f"the bounds that come in again: {rows}")
+    export(folder / "a.mmpkg", folder / "all.gpkg", "--all-tables")
+    expect(tables_in(folder / "all.gpkg"), ["base", "map_bounds", "pages", "photos", "spots", "viewer"], "all tables")
+    mmpkg("run", folder / "a.mmpkg", "--at", 0, given=b"row,map_bounds,2,elsewhere,0 0 1 1,0\n")
+    assert f"note: table viewer: {OWN}\n" in export(folder / "a.mmpkg", folder / "more.gpkg"), "bounds of no map"
+    expect("map_bounds" in tables_in(folder / "more.gpkg"), True, "whether bounds go out that the contents don't tell")
 
 
 def points_package(file):
@@ -651,7 +942,8 @@ def check_points_go_out_and_in(folder):
     """Rows go out as points at their places with their photos, and come in letter by letter but for where a place stood in its note."""
     points_package(folder / "a.mmpkg")
     _, told = tool("export_standard.py", folder / "a.mmpkg", folder / "out.gpkg", "--points", "spots", "bare")
-    expect(sorted(told.splitlines(keepends=True)), ["note: row 4 of spots: its place is of system 7; it stays in its note\n",
+    expect(sorted(told.splitlines(keepends=True)), [f"note: {SLIPS[0]}\n",
+           "note: row 4 of spots: its place is of system 7; it stays in its note\n", f"note: {SLIPS[1]}\n",
            "note: table bare: no note of it tells a place, so it is no layer of points\n"], "what is told")
     validate(folder / "out.gpkg")
     run("ogr2ogr", "-f", "CSV", "-lco", "GEOMETRY=AS_XY", folder / "seen.csv", folder / "out.gpkg", "spots")
@@ -664,7 +956,7 @@ def check_points_go_out_and_in(folder):
     assert "ETRS89 / UTM zone 32N" in run("ogrinfo", "-so", folder / "out.gpkg", "spots")[0], "the layer's system"
     expect(run(python_with_gdal, "-c", RELATIONSHIPS, folder / "out.gpkg")[0], "spots photos spots_photos media\n", "relations by GDAL")
     commands, told = tool("import_standard.py", folder / "out.gpkg", folder / "list.csv")
-    expect(told, "", "what the import tells")
+    expect(untold(told), "", "what the import tells")
     mmpkg("init", folder / "back.mmpkg")
     take_in(commands, folder / "back.mmpkg", folder)
     mmpkg("run", folder / "a.mmpkg", "--at", 0, given=b"row,spots,5,Late,@25832:500100/5600100 seen by,1\n")
@@ -693,7 +985,7 @@ def check_places_of_a_plan(folder):
     rows = [["row", "spots", 1, "Oak", "@-1:500.5/600.25 old", 0], ["row", "spots", 2, "Ash", "tall\u00a0@5/6", 0]]
     new_package(folder / "a.mmpkg", layout + "".join(map(record, rows)))
     _, told = tool("export_standard.py", folder / "a.mmpkg", folder / "out.gpkg", "--points", "spots")
-    expect(told, "", "what is told")
+    expect(told, "note: row 1 of spots: its place is on no map\n", "what is told")
     tool("import_standard.py", folder / "out.gpkg", folder / "list.csv", "--all-zooms")
     lines = [line for line in (folder / "list.csv").read_text().splitlines() if line.startswith("row,")]
     expect(lines, ["row,spots,1,Oak,@-1:500.5/600.25 old,0", "row,spots,2,Ash,@-1:5/6 tall,0"], "rows that come in")
@@ -702,7 +994,7 @@ def check_places_of_a_plan(folder):
             opened.execute("UPDATE spots SET geom = ? WHERE id = ?", (points.geometry_of(points.Place(-1, east, 5)), number))
         opened.commit()
     _, told = tool("import_standard.py", folder / "out.gpkg", folder / "list_2.csv", "--all-zooms", status=1)
-    expect(told.splitlines(), [f"left out: row {it} of spots: its place is outside the limits" for it in (1, 2)], "what is named")
+    expect(untold(told).splitlines(), [f"left out: row {it} of spots: its place is outside the limits" for it in (1, 2)], "what is named")
 
 
 def check_points_of_other_programs(folder):
@@ -763,7 +1055,7 @@ def check_kit_of_gdal2tiles(folder):
     run("gdal2tiles.py", "-q", "--profile=raster", "--xyz", "-w", "none", "-z", 2, folder / "all.png", folder / "tiles")
     (folder / "tiles" / "about.txt").write_text("no tile")
     commands, told = tool("make_kit.py", folder / "tiles", "base", "first", folder / "kit", status=1)
-    expect(told, "left out: about.txt: it is no tile Z/C/R.png\n", "what is told")
+    expect(told, "left out: about.txt: it is no tile Z/C/R.png, .jpg or .webp\n", "what is told")
     layout = page_map.records().splitlines()[0] + "\npyramid,base,Base,25832,0,0,{0},{0},two\nmatrix,base,2,3,3,256,256,{1},{1}\n"
     new_package(folder / "a.mmpkg", layout.format(768 * UNITS_PER_METRE, UNITS_PER_METRE) + "edition,first\n")
     take_in(commands, folder / "a.mmpkg", folder)

@@ -7,25 +7,27 @@ Each line '    $ COMMAND' of README.md and docs/USING.md is run in turn, in a ne
 stand below it; 'cat' of a file that is not there makes it of them. Each edit of must-fail/ is named in docs/PROOFS.md, in bold, and each mutant;
 each name in backticks there that looks like one of the code stands in some crate, script or transcript. Each line of cases/README.md names
 what shows its behaviour: a transcript, a test, an edit, a mutant or a script that there is, or behind 'proved:' a name of docs/PROOFS.md.
-Each example in the head of a crate stands word for word among the tests.
+Each text of docs/NUMBERS.md is what the program explains by its number, whole, and each number of docs/FORMATS.md has one. Each example in the head of a crate stands word for word among the tests.
 With --tours the commands alone are run. PROGRAM is the built program: without it out/mmpkg, or else the one that the gate left in
 crates/mm_cli/out.
 """
 import os
 import pathlib
 import re
-import socket
 import subprocess
 import sys
 import tempfile
+
+from checks import held_port
 
 TOP = os.path.dirname(os.path.dirname(os.path.dirname(os.path.abspath(__file__))))
 TOURS = "README.md", "docs/USING.md"
 PROGRAMS = "out/mmpkg", "crates/mm_cli/out/mm_cli"
 PROMISES = "docs/PROOFS.md"
+FORMATS, NUMBERS = "docs/FORMATS.md", "docs/NUMBERS.md"
 SHOWN = "cases/README.md"
 TESTED = "crates/mm_test_sessions/src/examples.rt"
-PORT = "8090"
+PORTS = "8090", "8080"
 SPOKEN_OF = (".rt", ".antt", ".edit", ".py", ".sh", ".case", ".steps")
 
 
@@ -49,18 +51,13 @@ def steps_of(text):
             command, lines = None, []
 
 
-def free_port():
-    with socket.socket() as it:
-        it.bind(("127.0.0.1", 0))
-        return str(it.getsockname()[1])
-
-
 class Tour:
     """A folder in which the commands of a document are run."""
 
     def __init__(self, folder, program):
         self.folder = folder
-        self.port = free_port()
+        self.held = {it: held_port() for it in PORTS}
+        self.ports = {it: str(held.getsockname()[1]) for it, held in self.held.items()}
         self.served = []
         os.makedirs(f"{folder}/bin")
         os.symlink(program, f"{folder}/bin/mmpkg")
@@ -79,13 +76,15 @@ class Tour:
         return ran.stdout.readline()
 
     def run(self, command):
-        command = command.replace(PORT, self.port)
+        command = re.sub("|".join(self.ports), lambda it: self.ports[it[0]], command)
         if command.endswith("&"):
             said = self.start(command)
         else:
-            how = {"shell": True, "cwd": self.folder, "env": self.environment, "timeout": 60, "text": True}
+            how = {"shell": True, "cwd": self.folder, "env": self.environment, "timeout": 600, "text": True}
             said = subprocess.run(command, stdout=subprocess.PIPE, stderr=subprocess.STDOUT, check=False, **how).stdout
-        return [line.rstrip() for line in said.replace("\r", "").replace(self.port, PORT).splitlines()]
+        told = {port: it for it, port in self.ports.items()}
+        said = re.sub("|".join(told), lambda it: told[it[0]], said)
+        return [line.rstrip() for line in said.replace("\r", "").splitlines()]
 
     def step(self, command, lines):
         """Runs a command, and returns whether it prints the lines."""
@@ -117,6 +116,40 @@ def tour_fits(path, program):
         finally:
             tour.end()
     return fits
+
+
+def explained():
+    """Returns by each heading of the page of numbers the text below it."""
+    parts = re.split(r"^### (.*)$", text_of(NUMBERS), flags=re.MULTILINE)[1:]
+    below = [re.split(r"^## ", it, maxsplit=1, flags=re.MULTILINE)[0] for it in parts[1::2]]
+    return {head: re.sub(r"^    ", "", it.strip("\n"), flags=re.MULTILINE) + "\n" for head, it in zip(parts[::2], below)}
+
+
+def numbers_of_formats():
+    """Returns the heading of each number and each rule that the formats name."""
+    answers = text_of(FORMATS).partition("**Refusals:**")[2].partition("\n## ")[0]
+    refusals, faults, openings = re.split(r"^\*\*(?:Faults:|Openings\.)\*\*", answers, flags=re.MULTILINE)
+    named = {f"refused {it}" for it in re.findall(r"\| (\d\d) (?=\|)", refusals)}
+    named |= {f"fault {it}" for it in re.findall(r"^\| (\d\d) \|", faults, re.MULTILINE)}
+    named |= {f"not a package {it}" for it in re.findall(r"^\| (\d\d) \|", openings, re.MULTILINE)}
+    return named | {f"rule Q{k}" for k in range(1, 17)} | {"not empty"}
+
+
+def numbers_are_explained(program):
+    """Returns whether each number and rule has its text, and the program explains it by just that."""
+    texts, named = explained(), numbers_of_formats()
+    for it in sorted(named ^ set(texts)):
+        print(f"{it}: it stands in one of {FORMATS} and {NUMBERS} alone")
+    wrong = [head for head, text in texts.items() if text != explanation(program, head)]
+    for it in wrong:
+        print(f"{NUMBERS}: the program has another text for {it}")
+    return not wrong and named == set(texts)
+
+
+def explanation(program, head):
+    """Returns what the program explains by the words of a heading."""
+    said = subprocess.run([program, "explain", *head.split()], stdout=subprocess.PIPE, check=False)
+    return said.stdout.decode()
 
 
 def spoken_of():
@@ -204,7 +237,7 @@ def main():
     program = os.path.realpath(given[0])
     answers = [tour_fits(path, program) for path in TOURS]
     if "--tours" not in sys.argv:
-        answers += [wrong_bodies_are_named(), *map(names_stand, (PROMISES, SHOWN)), behaviours_are_shown(), examples_are_tested()]
+        answers += [numbers_are_explained(program), wrong_bodies_are_named(), *map(names_stand, (PROMISES, SHOWN)), behaviours_are_shown(), examples_are_tested()]
     passed = sum(answers)
     print(f"{passed} passed, {len(answers) - passed} failed")
     return 0 if all(answers) else 1

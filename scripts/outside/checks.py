@@ -1,8 +1,11 @@
 """What the checks of this folder share: commands with what they have to answer, and checks that are run by their names."""
 
+import fcntl
 import os
 import pathlib
+import socket
 import sqlite3
+import struct
 import subprocess
 import sys
 import time
@@ -10,6 +13,8 @@ import traceback
 
 TOP = pathlib.Path(__file__).resolve().parent.parent.parent
 PROGRAM = os.path.realpath(os.environ.get("MMPKG") or TOP / "out" / "mmpkg")
+# How Linux is asked for a lock in the way of one's own: its kind, from where on, the first byte, how many, whose.
+LOCK = struct.Struct("hhqqi4x")
 
 
 def run(*command, status=0, given=b"", out=subprocess.PIPE):
@@ -24,6 +29,39 @@ def run(*command, status=0, given=b"", out=subprocess.PIPE):
 def mmpkg(*words, status=0, given=b""):
     """What the program prints."""
     return run(PROGRAM, *words, status=status, given=given)[0]
+
+
+def is_held(file):
+    """Whether a program has a package: it locks the file and its journal, as long as it has them open."""
+    for path in (file, f"{file}-wal"):
+        if os.path.exists(path):
+            with open(path, "rb") as opened:
+                told = fcntl.fcntl(opened, fcntl.F_OFD_GETLK, LOCK.pack(fcntl.F_WRLCK, os.SEEK_SET, 0, 0, 0))
+            if LOCK.unpack(told)[0] != fcntl.F_UNLCK:
+                return True
+    return False
+
+
+def wait_until_free(*files, seconds=60):
+    """Waits until no program has a package. One that is killed ends in its time: it may be in the midst of a write.
+
+    Whoever looks at a package behind a kill of what is no child of its own, or has one, waits by this first.
+    """
+    deadline = time.monotonic() + seconds
+    while held := [it for it in files if is_held(it)]:
+        assert time.monotonic() < deadline, f"a program has {held} still, {seconds} s behind the kill"
+        time.sleep(0.02)
+
+
+def held_port():
+    """A socket that has a port of this machine: as long as it is there the system gives that to nobody else.
+
+    It doesn't listen, so a program that is told of the port may, again and again, and nobody answers meanwhile.
+    """
+    held = socket.socket()
+    held.setsockopt(socket.SOL_SOCKET, socket.SO_REUSEADDR, 1)
+    held.bind(("127.0.0.1", 0))
+    return held
 
 
 def expect(found, wanted, what):

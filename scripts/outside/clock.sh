@@ -96,7 +96,7 @@ rm -f a.mmpkg a.mmpkg-wal
 "$program" init a.mmpkg >/dev/null
 MMPKG_KEY=0123456789abcdef CLOCK_SECONDS=253402300800 CLOCK_NANOSECONDS=0 LD_PRELOAD="$folder/clock.so" \
     "$program" desk a.mmpkg --port "$((20000 + RANDOM % 10000))" --count 1 >said &
-for _ in $(seq 50); do
+for _ in $(seq 600); do
     address=$(sed -n 's/^desk //p' said)
     [ -n "$address" ] && break
     sleep 0.1

@@ -8,11 +8,14 @@ isn't there.
 """
 
 import contextlib
+import hashlib
+import json
 import os
 import pathlib
 import pty
 import re
 import select
+import shutil
 import signal
 import socket
 import stat
@@ -21,12 +24,17 @@ import sys
 import tempfile
 import threading
 import time
+import urllib.parse
 
-from checks import PROGRAM, TOP, content_of, end, expect, mmpkg, run, run_checks
+from checks import PROGRAM, TOP, content_of, end, expect, mmpkg, run, run_checks, wait_until_free
 from crew_page import free_port, wait_until
 from terminal import read_until
 
 TOOL = TOP / "tools" / "crew.py"
+GDAL = pathlib.Path("/usr/lib/python3/dist-packages/osgeo")
+# The crew's command where no interpreter has GDAL's modules.
+WITHOUT_GDAL = ("-c", f"import sys; sys.path.insert(0, {str(TOOL.parent)!r}); import beside, border, crew; "
+                "beside.python_with_gdal = lambda: None; border.run_tool(crew.main)")  # fmt: skip
 LEAFLET = pathlib.Path("/usr/share/javascript/leaflet/leaflet.min.js")
 AT_ONCE = 60
 ENDED = "The day is ended: {} alone holds all, and may be copied."
@@ -36,9 +44,9 @@ BOTH = "{0}: the program didn't end well: keep {0} and {0}-wal together"
 class Started:
     """A crew's command that runs on a package."""
 
-    def __init__(self, file, *words, port=0, **environment):
+    def __init__(self, file, *words, port=0, tool=(TOOL,), **environment):
         self.file, self.port = file, port or free_port()
-        command = [sys.executable, "-B", TOOL, file, "--port", str(self.port), *words]
+        command = [sys.executable, "-B", *tool, file, "--port", str(self.port), *words]
         self.running = subprocess.Popen(command, stdout=subprocess.PIPE, stderr=subprocess.STDOUT, bufsize=0, env={**bare(), **environment})
         self.said = []
 
@@ -55,7 +63,7 @@ class Started:
         raise AssertionError(f"{words!r} isn't said, but {self.said}")
 
     def address(self):
-        return self.until("The page is http").split()[-1].removesuffix("/media/viewer/1")
+        return self.until("The page is http").split()[-1].split("#")[0].removesuffix("/media/viewer/1")
 
     def wait(self, status=0):
         """Waits for its end; all that it said."""
@@ -123,6 +131,7 @@ def folder_with(records=True):
             yield file
         finally:
             kill_desks(file)
+            wait_until_free(file)
 
 
 def desks(file):
@@ -199,6 +208,24 @@ def check_an_older_page():
         second.wait()
 
 
+def check_strangers_in_the_page_s_table():
+    """A package whose page's table has another item, or a relation, isn't opened, also where the page stands in it as it
+    is made now: what that table has runs at the page's address."""
+    strangers = {
+        "media,viewer,9,text/html,3c\n": "viewer: its item 9 is text/html and no viewer's",
+        "relation,shown,spots,viewer,media\n": "viewer: the relation shown relates viewer to spots",
+    }
+    for record, words in strangers.items():
+        with folder_with() as file:
+            first = Started(file)
+            address = first.address()
+            expect(post(address, record), "1 ok\n", "the stranger")
+            status_of(f"{address}/end", "-X", "POST")
+            first.wait()
+            said = Started(file).wait(2)
+            assert words in said[-1], said
+
+
 def check_kills():
     """A desk that is killed is started again; one that a killed command has left is ended by the next."""
     with folder_with() as file:
@@ -242,14 +269,53 @@ def check_an_end_before_the_page():
     """Ctrl-C while the program still checks the package, and has no port yet: it is asked again, and ends well."""
     with folder_with() as file:
         begun = file.parent / "begun"
-        slow = program_that(file, f'[ "$1" = desk ] && touch "{begun}" && sleep 2')
+        slow = program_that(file, f'case "$*" in *" --page "*) touch "{begun}"; sleep 2 ;; esac')
         started = Started(file, MMPKG=slow)
         wait_until(begun.exists, "the desk's start", AT_ONCE)
         began = time.monotonic()
         started.running.send_signal(signal.SIGINT)
         expect(started.wait()[-1], ENDED.format(file), "the last line")
-        assert time.monotonic() - began < 30, f"the end took {time.monotonic() - began:.0f} s"
+        assert time.monotonic() - began < AT_ONCE, f"the end took {time.monotonic() - began:.0f} s"
         expect(desks(file), [], "desks that are left")
+
+
+def check_an_end_while_the_page_comes_in():
+    """Ctrl-C while the page comes in leaves no program and the package as it is; the next start brings it in."""
+    with folder_with() as file:
+        begun = file.parent / "begun"
+        slow = program_that(file, f'[ "$1" = desk ] && touch "{begun}" && sleep 2')
+        started = Started(file, MMPKG=slow)
+        wait_until(begun.exists, "the start of the first program", AT_ONCE)
+        started.running.send_signal(signal.SIGINT)
+        expect(started.wait(130)[-1], "stopped", "the last line")
+        wait_until_free(file)
+        expect(desks(file), [], "desks that are left")
+        second = Started(file)
+        second.until("The page is brought in")
+        expect(status_of(f"{second.address()}/end", "-X", "POST"), "200", "the end")
+        second.wait()
+
+
+# The crew's command on a card with its lock on, where root too makes no file.
+LOCKED = """
+import errno, os, sys
+sys.path.insert(0, sys.argv.pop(1))
+import crew
+opened = os.open
+def refused(path, *how):
+    if str(path).endswith(".key"):
+        raise OSError(errno.EROFS, os.strerror(errno.EROFS), str(path))
+    return opened(path, *how)
+os.open = refused
+crew.run_tool(crew.main)
+"""
+
+
+def check_a_folder_that_can_not_be_written():
+    """On a card with its lock on no day can be begun, and the way round is told."""
+    with folder_with() as file:
+        _, told = run(sys.executable, "-B", "-c", LOCKED, TOOL.parent, file, "--no-browser", status=2)
+        assert told.startswith(f"{file}.key: can't be written") and told.endswith(f": cp {file}* FOLDER\n"), told
 
 
 def check_a_second_window():
@@ -328,7 +394,7 @@ def check_the_address_without_the_key():
         wait_until(seen.exists, "the browser's command", 30)
         lead = seen.read_text().strip()
         assert re.fullmatch(r"http://127\.0\.0\.1:[0-9]+/", lead), lead
-        expect(run("curl", "-s", "-o", "/dev/null", "-w", "%{redirect_url}", lead)[0], f"{address}/media/viewer/1", "where it leads")
+        expect(run("curl", "-s", "-o", "/dev/null", "-w", "%{redirect_url}", lead)[0], f"{address}/media/viewer/1#trip.mmpkg", "where it leads")
         if os.getuid() == 0:
             other = ["setpriv", "--reuid=65534", "--clear-groups", "curl", "-s", "-o", "/dev/null", "-w", "%{http_code}", lead]
             expect(run(*other)[0], "403", "what another user gets")
@@ -374,8 +440,8 @@ def check_a_window_that_waits():
         os.close(window)
 
 
-def check_one_opening():
-    """A package that has the page is opened once, by the desk; what a large one took is told before it is opened again."""
+def check_openings():
+    """A package that has the page is opened once, by the desk, and else twice; what a large one took is told before."""
     with folder_with() as file:
         folder = file.parent
         kit = folder / "kit"
@@ -389,16 +455,133 @@ def check_one_opening():
         ran = folder / "ran"
         kept = folder / "cache" / "mmpkg" / "seconds_a_gb"
         how = {"MMPKG": program_that(file, f'echo "$1" >>"{ran}"'), "XDG_CACHE_HOME": str(folder / "cache")}
-        for day, (words, runs) in enumerate(((".", ["check", "check", "run", "kit", "run", "desk"]), (" (24 MB: about 24 s).", ["desk"]))):
+        for day, (openings, before) in enumerate(((2, b""), (1, b""), (2, b"media,viewer,1,text/html,00\n"))):
+            mmpkg("run", file, given=before)
+            size = sum(content.stat().st_size for content in folder.glob("trip.mmpkg*") if content.suffix != ".key")
+            about = f"{size / 1e6:.0f} MB{', twice' * (openings - 1)}: about {round(size * openings * 999.9 / 1e9)} s"
+            words = f"{file} is opened: first it is checked as a whole{f' ({about})' if day else ''}."
             started = Started(file, **how)
-            expect(started.until("is opened"), f"{file} is opened: first it is checked as a whole{words}", f"the words of day {day}")
+            expect(started.until("is opened"), words, f"the words of day {day}")
             started.until("Ctrl-C")
             started.running.send_signal(signal.SIGINT)
             started.wait()
-            expect(ran.read_text().split(), runs, f"the runs of day {day}")
+            expect(ran.read_text().split(), ["desk"] * openings, f"the openings of day {day}")
             assert 0 < float(kept.read_text()) < 1000, "what the opening took a GB"
             ran.unlink()
             kept.write_text("999.9\n")
+
+
+def grid_in(folder):
+    """A picture that tells its place, as its makers write it, and a text that is none."""
+    picture = folder / "ground.asc"
+    picture.write_text("ncols 4\nnrows 4\nxllcorner 500000\nyllcorner 5600000\ncellsize 100\n" + "1 2 3 4\n" * 4)
+    run("gdal_translate", "-q", "-ot", "Byte", "-a_srs", "EPSG:25832", picture, folder / "ground.tif")
+    (folder / "notes.txt").write_text("ten bytes\n")
+    return folder / "ground.tif"
+
+
+def maps_told(started):
+    """The address of the maps that the page's address tells; None where it tells none."""
+    told = re.fullmatch(r".*#trip\.mmpkg&maps=(\d+)/([\w-]+)", started.until("The page is http"))
+    return f"http://127.0.0.1:{told[1]}/{told[2]}/" if told else None
+
+
+def is_there(address):
+    return run("curl", "-s", "-o", "/dev/null", "-w", "%{http_code}", f"{address}maps", status=None)[0] == "200"
+
+
+def words_of_all_programs():
+    """The words of all programs that run, which every user sees."""
+    found = []
+    for it in pathlib.Path("/proc").glob("[0-9]*/cmdline"):
+        with contextlib.suppress(OSError):
+            found.append(it.read_bytes())
+    return b"\n".join(found)
+
+
+def has_gdal():
+    if GDAL.is_dir() and shutil.which("gdal_translate"):
+        return True
+    print("    GDAL isn't there, and this wasn't tried: apt-get install gdal-bin python3-gdal")
+    return False
+
+
+def check_maps_behind_the_work():
+    """Maps that are named are drawn for the page as long as the command runs, however it ends, and the next day without being named; until they are forgotten."""
+    if not has_gdal():
+        return
+    with folder_with() as file:
+        ground, notes = grid_in(file.parent), file.parent / "notes.txt"
+        before = {it: hashlib.sha256(it.read_bytes()).hexdigest() for it in (ground, notes)}
+        first = Started(file, "--map", ground, notes)
+        kept = pathlib.Path(f"{file}.maps")
+        expect(first.until("Behind"), f"Behind the work: ground.tif, notes.txt ({kept} keeps which; --no-maps forgets them)", "the words")
+        assert first.until("not shown").startswith("Behind the work, not shown: notes.txt: GDAL opens no map of it"), first.said
+        maps = maps_told(first)
+        expect(json.loads(run("curl", "-s", f"{maps}maps?system=25832")[0])["maps"][0]["kind"], "picture", "the map")
+        expect(json.loads(kept.read_text()), {"maps": ["ground.tif", "notes.txt"]}, "what is kept")
+        assert urllib.parse.urlsplit(maps).path.strip("/").encode() not in words_of_all_programs(), "the token stands in a program's words"
+        first.running.send_signal(signal.SIGINT)
+        expect((first.wait()[-1], is_there(maps)), (ENDED.format(file), False), "the end")
+        expect(content_of(file)[:16], b"SQLite format 3\0", "the package")
+        second = Started(file, port=first.port)
+        again = maps_told(second)
+        assert again != maps and is_there(again), "the maps of the next day"
+        second.running.kill()
+        wait_until(lambda: not is_there(again), "the program of maps ends with a command that is killed")
+        expect(len(desks(file)), 1, "the desk behind the kill")
+        third = Started(file, "--map", ground, port=first.port)
+        third.until("ground.tif, notes.txt (")
+        third.address()
+        third.running.send_signal(signal.SIGTERM)
+        third.wait()
+        fourth = Started(file, "--no-maps", port=first.port)
+        expect(maps_told(fourth), None, "maps that are forgotten")
+        expect((kept.exists(), any("Behind" in it for it in fourth.said)), (False, False), "what is kept of them")
+        fourth.running.send_signal(signal.SIGINT)
+        fourth.wait()
+        expect({it: hashlib.sha256(it.read_bytes()).hexdigest() for it in before}, before, "the maps' files")
+        expect(sorted(it.name for it in file.parent.iterdir() if "ground" in it.name or "notes" in it.name), ["ground.asc", "ground.tif", "notes.txt"], "files beside them")
+
+
+def check_which_maps_are_kept():
+    """A list of maps goes along with its folder; what is no list stays as it is, and the package opens all the same."""
+    if not has_gdal():
+        return
+    with folder_with() as file:
+        grid_in(file.parent)
+        kept = pathlib.Path(f"{file}.maps")
+        for text in ("[1]", '{"maps": [1]}', "no list", '{"maps": "ground.tif"}'):
+            kept.write_text(text)
+            started = Started(file, "--map", file.parent / "ground.tif")
+            expect(started.until("no list of maps"), f"{kept}: is no list of maps of these tools, and stays as it is: move it away", "the words")
+            assert is_there(maps_told(started)), "the map that is named"
+            started.running.send_signal(signal.SIGINT)
+            started.wait()
+            expect(kept.read_text(), text, "what stood there")
+        kept.write_text('{"maps": ["ground.tif"]}')
+        with tempfile.TemporaryDirectory() as name:
+            moved = pathlib.Path(name) / "there"
+            shutil.copytree(file.parent, moved)
+            (file.parent / "ground.tif").unlink()
+            started = Started(moved / "trip.mmpkg")
+            maps = maps_told(started)
+            expect(json.loads(run("curl", "-s", f"{maps}maps?system=25832")[0])["maps"][0]["kind"], "picture", "the map of a folder that was copied")
+            started.running.send_signal(signal.SIGINT)
+            started.wait()
+
+
+def check_maps_without_gdal():
+    """Without GDAL one line says what to install, and the page opens without maps; which they are is kept."""
+    with folder_with() as file:
+        (file.parent / "ground.tif").write_bytes(b"x")
+        started = Started(file, "--map", file.parent / "ground.tif", tool=WITHOUT_GDAL)
+        expect(started.until("No map"), "No map is shown behind the work: GDAL's modules for Python aren't there: apt-get install python3-gdal", "the words")
+        expect(status_of(f"{started.address()}/contents"), "200", "the package")
+        assert not any("#" in it for it in started.said), started.said
+        started.running.send_signal(signal.SIGINT)
+        expect(started.wait()[-1], ENDED.format(file), "the last line")
+        expect(json.loads(pathlib.Path(f"{file}.maps").read_text()), {"maps": ["ground.tif"]}, "what is kept")
 
 
 def check_without_a_name():

@@ -1,4 +1,4 @@
-"""The page of 'mmpkg desk' as a crew uses it: its forms by mouse and keys in a Chromium that scripts/outside/devtools.py drives.
+"""The page of 'mmpkg desk' as a crew uses it: its forms by mouse and keys in a browser of scripts/outside/browsers.py.
 
 A Seat is a package whose desk is killed and started again at one port; a Crew is a page of it.
 """
@@ -6,15 +6,15 @@ A Seat is a package whose desk is killed and started again at one port; a Crew i
 import json
 import os
 import select
-import socket
 import subprocess
 import time
 
-from checks import PROGRAM
+from checks import PROGRAM, held_port
 
 KEY = "a-key-of-this-crew"
 STANDS = "all is in the package"
-AT_ONCE = 10
+AT_ONCE = 60
+HELD = []
 # The middle of an element, which is scrolled into view.
 MIDDLE = """it => {
   it.scrollIntoView({ block: 'center' });
@@ -22,17 +22,38 @@ MIDDLE = """it => {
   return [x + width / 2, y + height / 2];
 }"""
 
+# The same where nothing is over it; else null.
+OPEN_TO = f"""it => {{
+  const [x, y] = ({MIDDLE})(it), hit = document.elementFromPoint(x, y);
+  return hit && (it.contains(hit) || hit.contains(it)) ? [x, y] : null;
+}}"""
+REST_SECONDS = 2
+
+
+def press_at_rest(page, element):
+    """Presses what an expression names, in its middle, once nothing moves it and nothing is over it."""
+    deadline, before = time.monotonic() + REST_SECONDS, None
+    while time.monotonic() < deadline:
+        where = page.value(f"({OPEN_TO})({element})")
+        if where and where == before:
+            break
+        before = where
+        time.sleep(0.03)
+    page.click(*page.value(f"({MIDDLE})({element})"))
+
 
 def free_port():
-    with socket.create_server(("127.0.0.1", 0)) as listener:
-        return listener.getsockname()[1]
+    """A port that nobody else is given as long as this program runs."""
+    HELD.append(held_port())
+    return HELD[-1].getsockname()[1]
 
 
 class Seat:
     """A desk on a package, at a port that stays when it is killed and started again."""
 
     def __init__(self, file, key=KEY, port=0):
-        self.file, self.key, self.port = file, key, port or free_port()
+        self.held = None if port else held_port()
+        self.file, self.key, self.port = file, key, port or self.held.getsockname()[1]
         self.program = None
         self.start()
 
@@ -60,19 +81,19 @@ class Seat:
 
 
 class Crew:
-    """A page of a desk, and what a crew does there."""
+    """A page of a desk, and what a crew does there; `behind` is what stands behind the '#' of its address."""
 
-    def __init__(self, browser, address, kept=False, **how):
-        self.page = browser.open(f"{address}/media/viewer/1", kept=kept, **how)
+    def __init__(self, browser, address, kept=False, behind="", **how):
+        self.page = browser.open(f"{address}/media/viewer/1{behind and '#' + behind}", kept=kept, **how)
         self.wait_for_rows()
 
     def wait_for_rows(self):
-        there = "document.readyState === 'complete' && typeof byId === 'function' && store !== null && byId('count').innerText !== ''"
+        there = "document.readyState === 'complete' && typeof byId === 'function' && outbox.store !== null && byId('count').innerText !== ''"
         self.page.wait(f"!window.wasBefore && {there}")
 
     def reload(self):
         self.value("window.wasBefore = true")
-        self.page.ask("Page.reload")
+        self.page.reload()
         self.wait_for_rows()
 
     def value(self, expression):
@@ -83,8 +104,7 @@ class Crew:
 
     def press(self, element):
         """Presses what an expression or an id names, in its middle."""
-        it = element if "(" in element else f"byId('{element}')"
-        self.page.click(*self.value(f"({MIDDLE})({it})"))
+        press_at_rest(self.page, element if "(" in element else f"byId('{element}')")
 
     def write(self, element, text):
         """Writes into a field, in place of what it has."""
@@ -116,12 +136,13 @@ class Crew:
             self.page.wait(f"{there} && byId('thumbnails').ariaBusy === 'false'")
 
     def save(self):
-        """Saves the form; it closes when the act is in the outbox."""
+        """Saves the form; it closes when the act is in the outbox. What it had said before is no answer."""
+        self.value("byId('told').textContent = ''; 0")
         self.press("save")
         self.page.wait("byId('edit').hidden || byId('told').innerText !== ''")
 
     def new(self, **what):
-        self.page.ask("Page.bringToFront")
+        self.page.to_front()
         self.press("fresh")
         self.page.wait("form !== null && form.fresh")
         self.fill(**what)
@@ -157,7 +178,7 @@ class Crew:
         return self.value("[...byId('outbox').children].map(it => it.innerText.replaceAll('\\n', ' / '))")
 
     def wait_until_it_stands(self, seconds=30):
-        self.page.wait(f"byId('state').innerText === '{STANDS}' && waiting.length === 0", seconds)
+        self.page.wait(f"byId('state').innerText === '{STANDS}' && outbox.waiting.length === 0", seconds)
         return self
 
 

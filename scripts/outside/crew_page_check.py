@@ -1,7 +1,7 @@
 #!/usr/bin/env python3
-"""Works at the page of 'mmpkg desk' as a crew does, in headless Chromium. Called by scripts/outside/crew_page.sh.
+"""Works at the page of 'mmpkg desk' as a crew does, in a browser without a window. Called by scripts/outside/crew_page.sh.
 
-    MMPKG=out/mmpkg scripts/outside/crew_page_check.py [--browser chromium] [--keep FOLDER] [WORD ..]
+    MMPKG=out/mmpkg scripts/outside/crew_page_check.py [--browser chromium | firefox-esr] [--keep FOLDER] [WORD ..]
 
 What a form saves has to stand in the package, wholly and once, by what the program and SQLite tell of it; also where the program or the
 answer is cut at each line, the browser ends, or another tab works too. --keep keeps screenshots in a folder; WORD picks the checks whose
@@ -9,8 +9,10 @@ names have it. The last line is 'N passed, M failed'; the exit status is 1 where
 """
 
 import argparse
+import base64
 import contextlib
 import http.server
+import importlib
 import itertools
 import json
 import pathlib
@@ -18,14 +20,18 @@ import re
 import shutil
 import socket
 import sqlite3
+import struct
 import tempfile
 import threading
 import time
+import zlib
 
-import devtools
+import browsers
+import maps_drawn
+import page_map
+from browser_page import WAIT_SECONDS
 from checks import end, expect, mmpkg, run_checks
 from crew_page import KEY, MIDDLE, STANDS, Crew, Seat, free_port, wait_until
-from devtools import WAIT_SECONDS
 from viewer_package import PYRAMIDS, Pyramid, picture, new_package, record, take_in
 
 UTM = ('PROJCS["ETRS89 / UTM zone 32N",GEOGCS["ETRS89",DATUM["European_Terrestrial_Reference_System_1989",'
@@ -240,6 +246,8 @@ def check_search_and_order(scene):
     expect(crew.rows(), [f"Stone {it}" for it in range(STONES, 0, -1)], "newest first")
     crew.write("search", "BOOKS  stone 11")
     expect((crew.rows(), crew.text("count")), (["Stone 11"], "1 of 12 rows"), "found")
+    crew.write("search", "stöne 11")
+    expect(crew.rows(), ["Stone 11"], "found by other letters")
     crew.write("search", "nothing of this")
     expect((crew.rows(), crew.text("count")), ([], "0 of 12 rows"), "found")
     crew.write("search", "")
@@ -265,8 +273,24 @@ def check_words_for_what_is_no_row(scene):
             crew.write(element, text)
         crew.save()
         assert words in crew.text("told"), f"{fields}: {crew.text('told')}"
-    expect(crew.value("waiting.length"), 0, "what waits")
+        marked = "[...byId('edit').querySelectorAll('[aria-invalid]')]"
+        invalid = crew.value(f"{marked}.map(it => it === document.activeElement)")
+        expect(invalid, [True], f"the field that {fields} is about has the focus, and it alone is marked")
+        told = crew.value(f"{marked}.map(it => byId(it.getAttribute('aria-describedby'))?.innerText)")
+        expect(told, [crew.text("told")], "what a screen reader tells of the field")
+    expect(crew.value("outbox.waiting.length"), 0, "what waits")
     crew.write("north", "5600000,25")
+    crew.save()
+    words = "This place is outside all maps. Press Save again if that is right."
+    expect(crew.text("told"), words, "what is said of a place in the sea")
+    crew.save()
+    crew.wait_until_it_stands()
+    crew.press("fresh")
+    crew.fill(title="y", note="@25832:12/34 call tomorrow")
+    crew.save()
+    words = "The note tells a place: east 12, north 34. Press Save again if that is right."
+    expect(crew.text("told"), words, "what is said of a word of the note")
+    crew.write("note", "12/34 call tomorrow")
     crew.save()
     crew.wait_until_it_stands()
     expect(by_title(rows_of(seat), "x")[1], ("@25832:12/5600000.25", 1), "the row")
@@ -318,12 +342,11 @@ def check_where_the_device_is(scene):
     """The device's place is told in the map's system where the page can reckon it; else there is no button."""
     seat, crew = scene.begin()
     page = crew.page
-    scene.browser.ask("Browser.grantPermissions", permissions=["geolocation"], origin=f"http://127.0.0.1:{seat.port}", browserContextId=page.context)
-    page.ask("Emulation.setGeolocationOverride", longitude=9.005, latitude=50.552, accuracy=4.2)
+    page.device_is_at(9.005, 50.552, 4.2)
     # By gdaltransform -s_srs EPSG:4258 -t_srs EPSG:25832.
     known = ((9.005, 50.552, 500354.215816, 5600007.530529), (11.9, -33.25, 770185.680644, -3682753.508127), (9, 0, 500000, 0))
     for longitude, latitude, east, north in known:
-        found = crew.value(f"projected(systems[25832], {longitude}, {latitude})")
+        found = crew.value(f"projected(rows.systems[25832], {longitude}, {latitude})")
         assert abs(found["east"] - east) < 0.001 and abs(found["north"] - north) < 0.001, f"{found} for {longitude}, {latitude}"
     crew.press("fresh")
     crew.write("title", "Here")
@@ -379,7 +402,6 @@ def check_the_way_to_a_row(scene):
     """A form tells how far its place is from the map's middle and which way, and the list does in its order; the device leads there as it goes."""
     seat, crew = scene.begin()
     page = crew.page
-    scene.browser.ask("Browser.grantPermissions", permissions=["geolocation"], origin=f"http://127.0.0.1:{seat.port}", browserContextId=page.context)
     ways = {(3, 4): "5.0 m, 37° (NE)", (0, -12.4): "12 m, 180° (S)", (-1500, 1): "1,500 m, 270° (W)", (-0.01, 20): "20 m, 0° (N)"}
     for (east, north), words in ways.items():
         expect(crew.value(f"wordsOfWay({east}, {north})"), words, "a way in words")
@@ -394,14 +416,14 @@ def check_the_way_to_a_row(scene):
     crew.write("east", "500490")
     expect(crew.text("way"), "From the map's middle: 60 m, 180° (S)", "the way to another place")
     # By gdaltransform the first is at 500354.2 E, 5600007.5 N.
-    page.ask("Emulation.setGeolocationOverride", longitude=9.005, latitude=50.552, accuracy=4.2)
+    page.device_is_at(9.005, 50.552, 4.2)
     crew.value("window.awake = 0; navigator.wakeLock.request = async () => { window.awake += 1; return { release() { window.awake -= 1; } }; }; 0")
     crew.press("lead")
     page.wait("byId('way').innerText === '378 m, 21° (N), within 5 m'")
     expect(crew.value("document.dispatchEvent(new Event('visibilitychange')), window.awake"), 2, "how often the screen was asked to stay on")
     expect(crew.value("[[5600007, 500354], [5600360, 500490]].every(it => map.getBounds().contains(it))"), True, "both are on the map")
     scene.screenshot(crew, "way")
-    page.ask("Emulation.setGeolocationOverride", longitude=9.006, latitude=50.552, accuracy=9)
+    page.device_is_at(9.006, 50.552, 9)
     page.wait("byId('way').innerText === '358 m, 10° (N), within 9 m'")
     crew.press("lead")
     expect((crew.value("led"), crew.text("way").split(":")[0]), (None, "From the map's middle"), "the way behind that")
@@ -428,7 +450,7 @@ class Cutter:
     """Stands between a browser and a desk, and cuts one answer or one body off; what goes through has the desk's port for its own."""
 
     def __init__(self, seat):
-        self.seat, self.cut, self.renames, self.late = seat, None, True, None
+        self.seat, self.cut, self.renames, self.late, self.drops = seat, None, True, None, None
         self.listener = socket.create_server(("127.0.0.1", 0), backlog=128)
         self.port = self.listener.getsockname()[1]
         threading.Thread(target=self.listen, daemon=True).start()
@@ -460,6 +482,8 @@ class Cutter:
 
     def hand_on(self, connection, head, body):
         cut = self.cut if head.startswith(b"POST") else None
+        if self.drops and self.drops in body:
+            return None
         if self.renames:
             head = head.replace(b"127.0.0.1:%d" % self.port, b"127.0.0.1:%d" % self.seat.port)
         if cut == "before":
@@ -612,11 +636,11 @@ def check_line_ends_of_a_row(scene):
     seat, crew = scene.begin()
     expect(send(crew, 'row,spots,30,"Two\nlines","by the road\r\nand the oak ",3\n'), "1 ok\n", "the office's row")
     crew.reload()
-    crew.value("open(stood.get(30)); 0")
+    crew.value("open(rows.stood.get(30)); 0")
     crew.fill(amount=4, photos=[scene.photo])
     crew.save()
     crew.wait_until_it_stands()
-    crew.value("open(stood.get(30)); 0")
+    crew.value("open(rows.stood.get(30)); 0")
     crew.fill(place=(500_400, 5_600_500))
     crew.save()
     crew.wait_until_it_stands()
@@ -629,7 +653,7 @@ def check_rows_that_come_late(scene):
     seat = scene.seat()
     cutter = Cutter(seat)
     crew = scene.crew(cutter.address)
-    cutter.late = late = Late(b"/rows/spots/")
+    cutter.late = late = Late(b"/rows/spots/1 ")
     crew.value("window.areRead = false; readRows().then(() => { window.areRead = true; }); 0")
     late.wait()
     crew.new(title="Meanwhile", place=(500_400, 5_600_500))
@@ -651,16 +675,16 @@ def check_kills_of_browser_and_program(scene):
     """What was saved while no program was there is in the next browser, and goes to the package once the program is there."""
     seat = scene.seat()
     profile = scene.folder / "kept"
-    with devtools.Browser(scene.command, profile) as browser:
+    with browsers.start(scene.command, profile) as browser:
         crew = Crew(browser, seat.address, kept=True)
         seat.kill()
         crew.new(title="In the dark", note="kept", place=(500_200, 5_600_300), photos=[scene.photo])
         crew.change("Stone 2", amount=99)
         crew.page.wait("byId('state').className === 'gone'")
-        expect(crew.value("waiting.length"), 2, "what waits")
+        expect(crew.value("outbox.waiting.length"), 2, "what waits")
         browser.kill()
     seat.start()
-    with devtools.Browser(scene.command, profile) as browser:
+    with browsers.start(scene.command, profile) as browser:
         Crew(browser, seat.address, kept=True).wait_until_it_stands()
     rows = rows_of(seat)
     number, _ = by_title(rows, "In the dark")
@@ -670,7 +694,7 @@ def check_kills_of_browser_and_program(scene):
 def check_two_tabs(scene):
     """Two tabs work at one time: each shows what both have saved, and all of it stands once."""
     seat = scene.seat()
-    with devtools.Browser(scene.command, scene.folder / "tabs") as browser:
+    with browsers.start(scene.command, scene.folder / "tabs") as browser:
         tabs = [Crew(browser, seat.address, kept=True) for _ in range(2)]
         for turn in range(6):
             tabs[turn % 2].new(title=f"Tab {turn}", place=(500_100 + 50 * turn, 5_600_900), photos=[scene.photo] if turn < 2 else [])
@@ -680,7 +704,7 @@ def check_two_tabs(scene):
             expect_quiet(crew)
         seat.kill()
         tabs[0].new(title="Tab 6")
-        tabs[1].page.wait("waiting.length === 1")
+        tabs[1].page.wait("outbox.waiting.length === 1")
         tabs[0].page.close()
         seat.start()
         tabs[1].wait_until_it_stands()
@@ -691,20 +715,20 @@ def check_two_tabs(scene):
 def check_two_tabs_that_type(scene):
     """Each of two tabs keeps what is typed and taken in it, also when it is loaded again; what a closed one leaves is listed in the other."""
     seat = scene.seat()
-    with devtools.Browser(scene.command, scene.folder / "drafts") as browser:
+    with browsers.start(scene.command, scene.folder / "drafts") as browser:
         one, other = (Crew(browser, seat.address, kept=True) for _ in range(2))
         for crew, title in ((one, "One"), (other, "Other")):
-            crew.page.ask("Page.bringToFront")
+            crew.page.to_front()
             crew.press("fresh")
             crew.fill(title=title, note=f"of {title}", photos=[scene.photo])
         for crew, title in ((other, "Other"), (one, "One")):
-            crew.page.ask("Page.bringToFront")
+            crew.page.to_front()
             crew.reload()
             crew.page.wait(f"form !== null && form.photos.length === 1 && byId('state').innerText === '{STANDS}'")
             expect(crew.value("byId('title').value"), title, "the form that comes back")
         closed = one.value("tab")
         one.page.close()
-        other.page.ask("Page.bringToFront")
+        other.page.to_front()
         other.page.wait(f"String(left.map(it => it.owner)) === '{closed}' && byId('state').innerText === '1 not saved'")
         expect(other.waiting(), ["One / typed in a tab that is closed, and not saved / Open Throw away"], "what is listed")
         press_of_outbox(other, "Open")
@@ -725,15 +749,15 @@ def check_forms_of_a_browser_that_was_killed(scene):
     """Of two forms that were open when the browser ended one opens in the next, and the other is listed, also for two tabs at once."""
     seat = scene.seat()
     profile = scene.folder / "ended"
-    with devtools.Browser(scene.command, profile) as browser:
+    with browsers.start(scene.command, profile) as browser:
         for title in ("One", "Other"):
             crew = Crew(browser, seat.address, kept=True)
-            crew.page.ask("Page.bringToFront")
+            crew.page.to_front()
             crew.press("fresh")
             crew.fill(title=title, photos=[scene.photo])
-            crew.page.wait("done(drafts('strict').get(tab + 1)).then(it => it?.photos.length === 1)")
+            crew.page.wait("done(drafts('strict').get(tab + 1)).then(it => it?.ids.length === 1)")
         browser.kill()
-    with devtools.Browser(scene.command, profile) as browser:
+    with browsers.start(scene.command, profile) as browser:
         crew = Crew(browser, seat.address, kept=True)
         crew.page.wait("form !== null && form.photos.length === 1 && left.length === 1")
         shown = crew.value("byId('title').value")
@@ -742,7 +766,7 @@ def check_forms_of_a_browser_that_was_killed(scene):
         crew.page.wait("left.length === 0")
         expect({shown, second.value("byId('title').value")}, {"One", "Other"}, "the forms")
         second.page.close()
-        crew.page.ask("Page.bringToFront")
+        crew.page.to_front()
         crew.page.wait("left.length === 1")
         for _ in range(2):
             press_of_outbox(crew, "Throw away")
@@ -758,12 +782,12 @@ def check_what_waits_as_a_file(scene):
     crew.new(title='A "stone", lost', note="by file", amount=4, place=(500_400, 5_600_500), photos=[scene.photo])
     crew.change("Stone 2", amount=99)
     crew.remove("Stone 3")
-    crew.page.wait("waiting.length === 3 && byId('state').className === 'gone'")
+    crew.page.wait("outbox.waiting.length === 3 && byId('state').className === 'gone'")
     folder = scene.folder / "kept files"
     folder.mkdir()
-    scene.browser.ask("Browser.setDownloadBehavior", behavior="allow", downloadPath=str(folder), browserContextId=crew.page.context)
+    crew.page.keep_files_in(folder)
     crew.press("file")
-    wait_until(lambda: list(folder.glob("*.csv")), "the file is there")
+    wait_until(lambda: any(it.stat().st_size for it in folder.glob("*.csv")), "the file is there")
     scene.screenshot(crew, "file")
     (file,) = folder.glob("*.csv")
     assert re.fullmatch(r"not-in-the-package-[0-9-]{10}\.csv", file.name), file.name
@@ -787,7 +811,7 @@ def check_the_outbox_of_another_package(scene):
     other = scene.folder / "other.mmpkg"
     new_package(other, content())
     take_in(other, scene.folder / "other")
-    with devtools.Browser(scene.command, scene.folder / "mixed") as browser:
+    with browsers.start(scene.command, scene.folder / "mixed") as browser:
         crew = Crew(browser, seat.address, kept=True)
         seat.kill()
         crew.new(title="Of the first")
@@ -797,12 +821,12 @@ def check_the_outbox_of_another_package(scene):
         scene.seats.append(second)
         crew = Crew(browser, second.address, kept=True)
         crew.page.wait("byId('messages').innerText.includes('keeps work for another package too')")
-        expect((crew.value("waiting.length"), crew.text("state")), (0, STANDS), "what waits for the second")
+        expect((crew.value("outbox.waiting.length"), crew.text("state")), (0, STANDS), "what waits for the second")
         crew.page.close()
         expect(any("Of the first" in row for row in rows_of(second).values()), False, "it went to another package")
         seat.start(key="another-key-of-it")
         crew = Crew(browser, seat.address, kept=True)
-        crew.page.wait("waiting.length === 1")
+        crew.page.wait("outbox.waiting.length === 1")
         assert "was saved under another key" in crew.waiting()[0], crew.waiting()
         press_of_outbox(crew, "Send it here")
         crew.wait_until_it_stands()
@@ -824,16 +848,16 @@ def check_what_the_desk_refuses(scene):
     crew.wait_until_it_stands()
     large = "[{ table: 'spots', what: 'Large', records: [['media', 'photos', 9, 'image/jpeg']] }], [{ id: 9, bytes: new ArrayBuffer(8400000) }]"
     crew.value(f"post({large})")
-    crew.page.wait("waiting.length === 1 && waiting[0].refused")
+    crew.page.wait("outbox.waiting.length === 1 && outbox.waiting[0].refused")
     assert "too large for the package" in crew.waiting()[0], crew.waiting()
     for _ in range(2):
         press_of_outbox(crew, "Throw away")
     crew.wait_until_it_stands()
     expect(send(crew, "map,spots_photos,9,7\n"), "1 ok\n", "a photo of the row")
     crew.remove("Stone 9")
-    crew.page.wait("waiting.length === 1 && waiting[0].refused")
+    crew.page.wait("outbox.waiting.length === 1 && outbox.waiting[0].refused")
     assert "something is still related to it (42)" in crew.waiting()[0], crew.waiting()
-    expect(crew.text("state"), "1 refused", "the state")
+    crew.page.wait("byId('state').innerText === '1 refused'")  # behind what is put back
     related = "fetch(ROOT + 'related/spots/9').then(it => it.json()).then(all => all.map(it => it.table + it.id).join())"
     expect(crew.value(related), "photos7", "the photo of a row that wasn't removed")
     scene.screenshot(crew, "refused")
@@ -862,7 +886,7 @@ def change_a_refused_row(crew):
     crew.fill(title="Ben", note="a word")
     crew.value("byId('into').value = 'owners'; 0")
     crew.save()
-    crew.page.wait("waiting.length === 1 && waiting[0].refused")
+    crew.page.wait("outbox.waiting.length === 1 && outbox.waiting[0].refused")
     assert "refused: the row: there is no such table (25)" in crew.waiting()[0], crew.waiting()
     press_of_outbox(crew, "Change")
     crew.page.wait("form !== null")
@@ -882,28 +906,32 @@ def check_what_is_refused_is_changed(scene):
     change_a_refused_row(crew)
     save_as_bench(crew)
     crew.wait_until_it_stands()
-    expect_quiet(crew)
+    expect_quiet(crew, "404")
     expect(by_title(rows_of(seat), "Bench")[1], ("a word", 0), "the row")
 
 
 def check_a_refused_row_that_is_being_changed(scene):
-    """What was typed into the form of a refused row is there when the page is loaded again, with the row's photo, and is saved in its place."""
+    """What was typed into the form of a refused row is there when the page is loaded again, with the row's photo and
+    others that came, and is saved in its place."""
     seat, crew = scene.begin()
     row = "{ id: 900, title: 'With', note: '', amount: 0 }"
     records = "[['row', 'none', 900, 'With', '', 0], ['media', 'photos', 902, 'image/jpeg']]"
-    crew.value(f"post([{{ table: 'owners', of: 900, row: {row}, what: 'With', records: {records} }}], [{{ id: 902, bytes: new ArrayBuffer(10) }}])")
-    crew.page.wait("waiting.length === 1 && waiting[0].refused")
+    crew.value(f"post([{{ table: 'spots', of: 900, row: {row}, what: 'With', records: {records} }}], [{{ id: 902, bytes: new ArrayBuffer(10) }}])")
+    crew.page.wait("outbox.waiting.length === 1 && outbox.waiting[0].refused")
     press_of_outbox(crew, "Change")
     crew.page.wait("form !== null")
     crew.write("note", "half a word")
+    crew.fill(photos=[scene.photo] * 2)
     crew.reload()
     crew.page.wait("form !== null && byId('thumbnails').ariaBusy === 'false'")
-    found = crew.value("[byId('which').innerText, byId('note').value, form.photos.length, waiting.length]")
-    expect(found, ["Refused: the row: there is no such table (25)", "half a word", 1, 1], "the form behind that")
+    found = crew.value("[byId('which').innerText, byId('note').value, form.photos.length, outbox.waiting.length]")
+    expect(found, ["Refused: the row: there is no such table (25)", "half a word", 3, 1], "the form behind that")
     save_as_bench(crew)
     crew.wait_until_it_stands()
     expect_quiet(crew)
-    expect((by_title(rows_of(seat), "Bench"), related_of(seat, 900)), ((900, ("half a word", 0)), [("image/jpeg", 10)]), "the row and its photo")
+    expect(by_title(rows_of(seat), "Bench"), (900, ("half a word", 0)), "the row")
+    sizes = sorted(size for _, size in related_of(seat, 900))
+    assert len(sizes) == 3 and sizes[0] == 10 and sizes[1] > 100, f"its photo, and two that came later: {sizes}"
 
 
 def check_a_list_that_is_refused_in_part(scene):
@@ -911,10 +939,10 @@ def check_a_list_that_is_refused_in_part(scene):
     seat, crew = scene.begin()
     row = "{ id: 900, title: 'Half', note: '', amount: 0 }"
     crew.value(f"post([{{ table: 'spots', row: {row}, what: 'Half', records: [['row', 'spots', 900, 'Half', '', 0], ['row', 'none', 1, '', '', 0]] }}])")
-    crew.page.wait("waiting.length === 1 && waiting[0].refused")
+    crew.page.wait("outbox.waiting.length === 1 && outbox.waiting[0].refused")
     for _ in range(2):
         press_of_outbox(crew, "Throw away")
-    crew.page.wait("waiting.length === 0 && stood.has(900)")
+    crew.page.wait("outbox.waiting.length === 0 && rows.stood.has(900)")
     expect("Half" in crew.rows(), True, "the row that stands is shown")
     expect_quiet(crew)
     by_title(rows_of(seat), "Half")
@@ -932,22 +960,29 @@ def check_a_row_saved_anew_while_it_is_sent(scene):
     save_as_bench(crew)
     late.go()
     crew.wait_until_it_stands()
-    expect_quiet(crew)
+    expect_quiet(crew, "404")
     expect(by_title(rows_of(seat), "Bench")[1], ("a word", 0), "the row")
 
 
-def check_5000_rows(scene):
-    """With 5,000 rows the list is there, searched and ordered within a second, and the map shows them."""
+def with_trees(scene, trees, **how):
+    """A desk and its page, with so many rows more than the stones."""
     file = scene.copy()
-    rows = [("spots", 1000 + it, f"Tree {it}", f"@25832:{500_000 + it % 1000}/{5_600_000 + it // 5} oak", it) for it in range(5000 - STONES)]
-    with contextlib.closing(sqlite3.connect(file)) as opened:  # which is quicker than 5,000 commits
+    places = [(500_000 + it * 389 % 1000, 5_600_000 + it * 211 % 997) for it in range(trees)]
+    rows = [("spots", 1000 + it, f"Tree {it}", f"@25832:{east}/{north} oak", it) for it, (east, north) in enumerate(places)]
+    with contextlib.closing(sqlite3.connect(file)) as opened:  # which is quicker than so many commits
         opened.executemany("INSERT INTO mm_rows (table_name, id, title, note, amount) VALUES (?, ?, ?, ?, ?)", rows)
         opened.commit()
     expect(mmpkg("check", file), "package ok\n", "the check")
     seat = Seat(file)
     scene.seats.append(seat)
-    crew = scene.crew(seat.address)
-    crew.page.wait("byId('count').innerText === '5000 rows, 100 are shown'", 60)
+    crew = scene.crew(seat.address, **how)
+    crew.page.wait(f"byId('count').innerText === '{trees + STONES} rows, 100 are shown'", 60)
+    return seat, crew
+
+
+def check_5000_rows(scene):
+    """With 5,000 rows the list is there, searched and ordered within a second, and the map shows them."""
+    _, crew = with_trees(scene, 5000 - STONES)
     timed = "(act => { const began = performance.now(); act(); byId('rows').offsetHeight; return performance.now() - began; })"
     changed = "(() => {{ byId('{0}').value = '{1}'; byId('{0}').dispatchEvent(new Event('{2}')); }})"
     took = {word or "no word": crew.value(timed + changed.format("search", word, "input")) for word in ("tree 12", "")}
@@ -1027,6 +1062,8 @@ def check_names_and_places_in_sight(scene):
     crew.page.wait(f"{names} === 'Stone 5,Stone 6,Stone 7'")
     crew.open("Stone 12")
     expect(crew.value("((it) => [it.lng, it.lat])(map.getCenter())"), [500840, 5600720], "the map's middle")
+    crew.page.wait(f"{names} === 'Stone 12'")
+    crew.write("search", "")
     crew.page.wait(f"{names} === 'Stone 11,Stone 12'")
     scene.screenshot(crew, "names")
     crew.write("title", "Stone twelve")
@@ -1038,6 +1075,62 @@ def check_names_and_places_in_sight(scene):
     crew.wait_until_it_stands()
     expect_quiet(crew)
     rows_of(seat)
+
+
+# The part of the map that its marks cover, by what is drawn of them.
+COVERED = """(() => {
+  const { width, height } = marks.canvas._container, drawn = marks.canvas._ctx.getImageData(0, 0, width, height).data;
+  let count = 0;
+  for (let at = 3; at < drawn.length; at += 4) count += drawn[at] > 0;
+  return count / width / height;
+})()"""
+
+
+def check_marks_of_hundreds_of_rows(scene):
+    """Hundreds of marks leave a phone's map to be seen, and are larger where fewer are; the map has those that are
+    searched for alone."""
+    _, crew = with_trees(scene, 350, width=390, height=800, touch=True)
+    crew.page.wait("marked.size === 362")
+    crew.page.wait("new Promise(good => requestAnimationFrame(() => requestAnimationFrame(() => good(true))))")
+    covered = crew.value(COVERED)
+    assert 0 < covered < 0.2, f"marks cover {covered:.2f} of the map"
+    small = crew.value("[...marked.values()][0].mark.getRadius()")
+    scene.screenshot(crew, "hundreds")
+    crew.write("search", "stone")
+    crew.page.wait(f"marked.size === {STONES}")
+    expect(crew.value("[...marked.values()].every(it => it.mark.row.title.startsWith('Stone'))"), True, "the marks")
+    large = crew.value("[...marked.values()][0].mark.getRadius()")
+    assert small < large, f"marks of {small} pixels, and of {large} where few are searched for"
+    crew.write("search", "")
+    crew.page.wait("marked.size === 362")
+    expect_quiet(crew)
+
+
+# Whether a mark is drawn, at so many times its size to the right and down of its place.
+IS_DRAWN = """((id, right, down) => {
+  const { mark } = marked.get(id), { canvas } = marks, at = mark._point, from = canvas._bounds.min, size = mark.getRadius();
+  const [x, y] = [at.x - from.x + right * size, at.y - from.y + down * size].map(Math.round);
+  return canvas._ctx.getImageData(x, y, 1, 1).data[3] > 0;
+})"""
+
+
+def check_the_shape_of_a_mark(scene):
+    """Waiting, refused and other marks differ by their shape, and not by their colour alone."""
+    seat, crew = scene.begin()
+    crew.value("map.setView([5600360, 500420], 4, { animate: false }); 0")
+    seat.kill()
+    crew.change("Stone 5", amount=50)
+    row = "{ id: 6, title: 'Stone 6', note: '@25832:500420/5600360', amount: 1 }"
+    act = f"{{ table: 'spots', of: 6, row: {row}, what: 'Stone 6', records: [], refused: 'no' }}"
+    crew.value(f"keep(acts => acts.put({{ ...{act}, at: KEY, saved: saving() }}))")
+    crew.write("search", "")
+    crew.page.wait("marked.get(5)?.mark.row.waits === 'waits' && marked.get(6)?.mark.row.waits === 'refused' && marked.has(7)")
+    crew.page.wait("new Promise(good => requestAnimationFrame(() => requestAnimationFrame(() => good(true))))")
+    # A square has its corners, and a triangle two of them below, and none above.
+    corners = [(0.9, -0.9), (0.9, 0.9)]
+    found = [[crew.value(f"{IS_DRAWN}({row}, {right}, {down})") for right, down in corners] for row in (5, 6, 7)]
+    expect(found, [[True, True], [False, True], [False, False]], "corners of a waiting, a refused and another mark")
+    scene.screenshot(crew, "shapes")
 
 
 def check_the_end_of_the_day(scene):
@@ -1056,10 +1149,11 @@ def check_the_end_of_the_day(scene):
     crew.new(title="The last")
     for _ in range(2):
         crew.press("end")
-    expect(crew.value("[ended, waiting.length]"), [False, 2], "the end while two wait")
+    expect(crew.value("[ended, outbox.waiting.length]"), [False, 2], "the end while two wait")
     late.go()
     crew.page.wait("byId('state').innerText.startsWith('the day is ended')")
-    expect(crew.text("messages"), "The package is closed. This page may be closed too.", "what is said")
+    words = "The package is closed, and its file may be copied. This page may be closed too."
+    expect(crew.text("messages"), words, "what is said")
     expect(seat.program.wait(10), 0, "the desk's status")
     journal = pathlib.Path(f"{seat.file}-wal")
     assert not journal.exists() or journal.stat().st_size < 100, "the journal holds commits"
@@ -1097,7 +1191,7 @@ def check_a_frame_of_another_site(scene):
         page = scene.browser.open(f"http://127.0.0.1:{server.server_address[1]}/index.html")
         scene.pages.append(page)
         page.wait("document.readyState === 'complete'")
-        tree = page.ask("Page.getFrameTree")["frameTree"]["childFrames"][0]["frame"]
+        (shown,) = page.frames()
         for mode, kind in itertools.product(("no-cors", "cors"), ("text/csv", "text/plain")):
             how = f"{{ method: 'POST', mode: '{mode}', headers: {{ 'Content-Type': '{kind}' }}, body: 'row,spots,801,Evil,,0' }}"
             page.value(f"fetch('{seat.address}/records', {how}).then(it => it.status, it => 0)")
@@ -1106,8 +1200,506 @@ def check_a_frame_of_another_site(scene):
         page.value("document.getElementById('form').submit(); 0")
         time.sleep(1)
         server.shutdown()
-    assert "chrome-error" in tree.get("unreachableUrl", tree["url"]) or tree["url"].startswith(seat.address), tree
+    assert shown.startswith(("chrome-error", seat.address)), shown
     expect(sorted(rows_of(seat)), list(range(1, STONES + 1)), "the rows")
+
+
+class Stranger:
+    """Another program at a port, which answers each request alike."""
+
+    def __init__(self, port, status=200, kind="text/html", body=b"<p>another program</p>\n" * 30, **heads):
+        def answer(handler):
+            handler.rfile.read(int(handler.headers.get("Content-Length", 0)))
+            is_page = handler.path == "/login"
+            handler.send_response(200 if is_page else status)
+            for name, it in {"Content-Type": kind, "Content-Length": len(body), **({} if is_page else heads)}.items():
+                handler.send_header(name, it)
+            handler.end_headers()
+            handler.wfile.write(body)
+            self.asked.add(f"{handler.command} {handler.path.split('/')[-1]}")
+
+        class Handler(http.server.BaseHTTPRequestHandler):
+            do_GET = do_POST = answer
+
+            def log_message(self, *_):
+                pass
+
+        self.asked = set()
+        self.server = http.server.ThreadingHTTPServer(("127.0.0.1", port), Handler)
+        threading.Thread(target=self.server.serve_forever, daemon=True).start()
+
+    def __enter__(self):
+        return self
+
+    def __exit__(self, *_):
+        self.server.shutdown()
+        self.server.server_close()
+
+
+def check_a_stranger_at_the_port(scene):
+    """What another program at the port answers is nothing of the package: what waits stays, that is said, and it
+    stands once the package is back."""
+    for how in ({}, {"status": 302, "Location": "/login"}):
+        seat, crew = scene.begin()
+        seat.kill()
+        crew.new(title="Meanwhile", place=(500_400, 5_600_500), photos=[scene.photo])
+        crew.page.wait("byId('state').className === 'gone'")
+        with Stranger(seat.port, **how):
+            crew.page.wait("byId('state').innerText === 'another program has the port' || outbox.waiting.length === 0")
+            found = crew.value("outbox.waiting.length"), crew.text("state")
+            expect(found, (1, "another program has the port"), f"what waits beside {how}")
+        seat.start()
+        crew.wait_until_it_stands()
+        number, rest = by_title(rows_of(seat), "Meanwhile")
+        expect((rest, len(related_of(seat, number))), (("@25832:500400.0/5600500.0", 0), 1), "the row and its photo")
+
+
+def check_answers_of_a_stranger(scene):
+    """Lines of another form, number or type, and what isn't the package's list, do nothing: no act, no end, no row of
+    the list."""
+    seat, crew = scene.begin()
+    shown = crew.rows()
+    seat.kill()
+    crew.new(title="Meanwhile", photos=[scene.photo])
+    kinds = [{"kind": "text/html", "body": b"1 ok\n2 ok\n3 ok\n"},
+             {"kind": "text/plain", "body": b"1 ok\n2 ok\n3 ok\n4 ok\n"},
+             {"kind": "text/plain", "body": b"ok\nok\nok\n"}, {"kind": "application/json", "body": b"[]"},
+             {"kind": "application/json", "body": b"{}"}, {"status": 404, "body": b"none"}, {"kind": "text/plain", "body": b""}]  # fmt: skip
+    for how in kinds:
+        with Stranger(seat.port, **how) as stranger:
+            crew.value("clearTimeout(later), send(), 0")
+            wait_until(lambda: stranger.asked, "the page asks the stranger")
+            crew.page.wait("!sending")
+            crew.value("readRows()")
+            for _ in range(2):
+                crew.press("end")
+            first = "What waits is sent first, and then the day ends."
+            crew.page.wait(f"!sending && byId('messages').innerText !== '{first}'")
+            found = crew.value("[outbox.waiting.length, ended, rows.stood.size]")
+            expect(found, [1, False, STONES], f"what waits, whether the day is ended, and the rows beside {how}")
+    expect(crew.rows(), ["Meanwhile", *shown], "the list")
+    seat.start()
+    crew.wait_until_it_stands()
+    by_title(rows_of(seat), "Meanwhile")
+
+
+@contextlib.contextmanager
+def two_tabs_on(scene, seat, title):
+    """Two tabs of a browser, both with the form of a row."""
+    scene.count += 1
+    with browsers.start(scene.command, scene.folder / f"pair-{scene.count}") as browser:
+        pair = [Crew(browser, seat.address, kept=True) for _ in range(2)]
+        for crew in pair:
+            crew.page.to_front()
+            crew.open(title)
+        yield pair
+
+
+def outbox_shows(crew, words):
+    crew.page.wait(f"byId('outbox').innerText.includes({json.dumps(words)})", 30)
+
+
+def check_two_tabs_on_one_row(scene):
+    """What two tabs change of one row is joined where each changes another part, and that is said until somebody has
+    seen it."""
+    seat = scene.seat()
+    with two_tabs_on(scene, seat, "Stone 9") as (one, other):
+        one.fill(amount=77, photos=[scene.photo])
+        other.page.to_front()
+        other.fill(title="Stone nine", note="leaning")
+        other.save()
+        other.wait_until_it_stands()
+        one.page.to_front()
+        one.save()
+        one.page.wait("byId('state').innerText === 'all is in the package, 1 joined'")
+        words = "in the package, joined: the title and the note as another changed it, the rest as you did"
+        expect(one.waiting(), [f"Stone 9, with a photo / {words} / Seen"], "what is said")
+        scene.screenshot(one, "joined")
+        press_of_outbox(one, "Seen")
+        one.wait_until_it_stands()
+        expect("Stone nine" in one.rows(), True, "the list has the row as it stands")
+        expect_quiet(one)
+    expect(rows_of(seat)[9], ("Stone nine", "@25832:500630/5600540 leaning", 77), "the row")
+    expect(len(related_of(seat, 9)), 1, "its photos")
+
+
+def check_two_tabs_that_change_one_part(scene):
+    """Where both changed one part nothing is written until somebody says whose it is: mine, theirs, or changed once
+    more. All else is of who changed it."""
+    for words, title in (("Take mine", "By one"), ("Take theirs", "By the other"), ("Change", "By both")):
+        seat = scene.seat()
+        with two_tabs_on(scene, seat, "Stone 9") as (one, other):
+            one.fill(title="By one", amount=77, photos=[scene.photo])
+            other.page.to_front()
+            other.fill(title="By the other", note="leaning")
+            other.save()
+            other.wait_until_it_stands()
+            one.page.to_front()
+            one.save()
+            outbox_shows(one, "changed meanwhile: you and another have changed the title")
+            expect(one.text("state"), "1 changed meanwhile", "the state")
+            sides = one.value("[...byId('outbox').querySelectorAll('td')].map(it => it.innerText)")
+            expect(sides, ["By one", "By the other"], "both sides of what both changed")
+            scene.screenshot(one, "changed-meanwhile")
+            press_of_outbox(one, words)
+            if words == "Take theirs":
+                press_of_outbox(one, words)
+            if words == "Change":
+                one.page.wait("form !== null && byId('thumbnails').ariaBusy === 'false'")
+                one.write("title", "By both")
+                one.save()
+            one.wait_until_it_stands()
+            expect_quiet(one)
+        expect(rows_of(seat)[9], (title, "@25832:500630/5600540 leaning", 77), f"the row, {words}")
+        expect(len(related_of(seat, 9)), 1, f"its photos, {words}")
+
+
+def check_a_row_that_another_tab_removes(scene):
+    """A row that another tab has removed isn't brought back unsaid, and one that another has changed isn't removed
+    unsaid."""
+    seat = scene.seat()
+    with two_tabs_on(scene, seat, "Stone 8") as (one, other):
+        other.page.to_front()
+        for _ in range(2):
+            other.press("remove")
+        other.page.wait("byId('edit').hidden")
+        other.wait_until_it_stands()
+        one.page.to_front()
+        one.fill(amount=77)
+        one.save()
+        outbox_shows(one, "changed meanwhile: the row was removed")
+        press_of_outbox(one, "Make it again")
+        one.wait_until_it_stands()
+        one.open("Stone 8")
+        other.page.to_front()
+        other.change("Stone 8", amount=78)
+        other.wait_until_it_stands()
+        one.page.to_front()
+        for _ in range(2):
+            one.press("remove")
+        outbox_shows(one, "changed meanwhile: the row that you remove isn't as you saw it")
+        expect("Stone 8" in one.rows(), True, "the row is shown")
+        press_of_outbox(one, "Leave it")
+        press_of_outbox(one, "Leave it")
+        one.wait_until_it_stands()
+        one.remove("Stone 8")
+        one.wait_until_it_stands()
+        expect_quiet(one)
+    expect(8 in rows_of(seat), False, "the row stands")
+
+
+def check_a_newer_copy_of_the_package(scene):
+    """What waits meets what the office has corrected since, in a newer copy at the same path: joined, or changed
+    meanwhile, and never over it."""
+    seat, crew = scene.begin()
+    seat.kill()
+    crew.change("Stone 6", amount=66)
+    crew.change("Stone 7", note="by the crew")
+    crew.page.wait("outbox.waiting.length === 2 && byId('state').className === 'gone'")
+    office = ("row,spots,6,Stone six,@25832:500420/5600360 corrected,6\n"
+              "row,spots,7,Stone 7,@25832:500490/5600420 by the office,7\n")  # fmt: skip
+    expect(mmpkg("run", seat.file, "--at", 0, given=office.encode()), "1 ok\n2 ok\n", "the office's records")
+    seat.start()
+    outbox_shows(crew, "changed meanwhile: you and another have changed the note")
+    outbox_shows(crew, "joined: the title and the note as another changed it")
+    expect(crew.text("state"), "1 changed meanwhile", "the state")
+    press_of_outbox(crew, "Take mine")
+    press_of_outbox(crew, "Seen")
+    crew.wait_until_it_stands()
+    expect_quiet(crew, "ERR_")
+    rows = rows_of(seat)
+    expect(rows[6], ("Stone six", "@25832:500420/5600360 corrected", 66), "the row that was joined")
+    expect(rows[7], ("Stone 7", "@25832:500490/5600420 by the crew", 7), "the row that the crew took its own side of")
+
+
+def check_what_others_write(scene):
+    """What another client of the desk writes is in the list once the page is looked at again, and an open form of the
+    row tells it."""
+    seat, crew = scene.begin()
+    crew.open("Stone 5")
+    records = "row,spots,5,Stone five,,5\nrow,spots,5555,Of another,,0\nrow-drop,spots,4\n"
+    expect(send(crew, records), "1 ok\n2 ok\n3 ok\n", "the other's records")
+    crew.value("dispatchEvent(new Event('focus')); 0")
+    crew.page.wait("byId('which').innerText === 'Row 5, which another has changed meanwhile'")
+    crew.write("search", "")
+    rows = crew.rows()
+    expect((rows[0], "Stone five" in rows, "Stone 4" in rows), ("Of another", True, False), "the list")
+    expect_quiet(crew)
+
+
+def check_an_act_that_does_not_come_through(scene):
+    """An act that fails again and again, though the package answers, lets others by, says why, and can be thrown away;
+    it stands once it comes through. What is behind it of its row waits for it."""
+    seat = scene.seat()
+    cutter = Cutter(seat)
+    crew = scene.crew(cutter.address)
+    cutter.drops = b"media,photos,"
+    crew.new(title="Large", photos=[scene.photo, scene.photo])
+    crew.new(title="Small")
+    failed = "byId('outbox').innerText.includes('failed 2 times: the package doesn\\'t answer')"
+    crew.page.wait(f"outbox.waiting.length === 2 && byId('outbox').children.length === 2 && {failed}", 30)
+    expect(["Throw away" in it for it in crew.waiting()], [True, False], "the buttons")
+    expect(crew.text("state"), "2 to send", "the state")
+    cutter.drops = None
+    crew.value("send()")
+    crew.wait_until_it_stands()
+    rows = rows_of(seat)
+    by_title(rows, "Small")
+    expect(len(related_of(seat, by_title(rows, "Large")[0])), 2, "the photos of the other")
+
+
+def check_a_full_storage(scene):
+    """Where the browser's storage is full Save says so, and a form says that its photos aren't kept; nothing is closed
+    or lost meanwhile."""
+    seat, crew = scene.begin()
+    crew.page.fill_storage(True)
+    crew.press("fresh")
+    crew.fill(title="Full", photos=[scene.photo])
+    crew.page.wait("byId('told').innerText.includes('its storage is full')")
+    assert "isn't kept" in crew.text("told"), crew.text("told")
+    crew.press("save")
+    crew.page.wait("['its storage is full', 'it isn\\'t saved yet'].every(it => byId('told').innerText.includes(it))")
+    found = crew.value("[outbox.waiting.length, byId('edit').hidden]")
+    expect(found, [0, False], "what waits, and whether the form is closed")
+    crew.page.fill_storage(False)
+    crew.save()
+    crew.wait_until_it_stands()
+    number, _ = by_title(rows_of(seat), "Full")
+    expect(len(related_of(seat, number)), 1, "its photos")
+
+
+def check_a_window_that_is_not_kept(scene):
+    """A window whose storage the browser may clear says so beside the state, and none that keeps it does."""
+    _, crew = scene.begin()
+    words = ("This browser doesn't promise to keep what waits here: a private window loses it, "
+             "and so may one whose disk is full.")  # fmt: skip
+    expect(crew.text("kept"), words, "what is said")
+    _, other = scene.begin()
+    expect(other.value("tellKept(true), byId('kept').hidden"), True, "what is said where it is kept")
+
+
+def check_a_page_that_is_older(scene):
+    """A page that is open while the package gets a newer one says so, and none that is the package's does."""
+    _, crew = scene.begin()
+    expect(crew.text("messages"), "", "what is said")
+    known = json.loads(crew.value("fetch('4').then(it => it.text())"))
+    known["page"] = "sha256-of-another"
+    record = f"media,viewer,4,application/json,{json.dumps(known).encode().hex()}\n"
+    expect(send(crew, record), "1 ok\n", "the newer item")
+    crew.value("dispatchEvent(new Event('focus')); 0")
+    crew.page.wait("byId('messages').innerText.startsWith('The package has a newer page than this')")
+    expect_quiet(crew)
+
+
+def check_the_name_of_the_package(scene):
+    """The page names the package's file where the address does, also when it is opened again without."""
+    seat = scene.seat()
+    with browsers.start(scene.command, scene.folder / "named") as browser:
+        for behind in ("#two%20crews.mmpkg", ""):
+            page = browser.open(f"{seat.address}/media/viewer/1{behind}", kept=True)
+            page.wait("document.title !== '' && typeof byId === 'function' && byId('count').innerText !== ''")
+            found = page.value("[document.title, byId('package').innerText]")
+            expect(found, ["two crews.mmpkg: Base map", "two crews.mmpkg"], "its name")
+            page.close()
+
+
+# Posts a number of acts that make rows.
+MANY = """(async count => {
+  const rows = Array.from({ length: count }, (_, at) => ({ id: 9000 + at, title: `Post ${at}`, note: '', amount: at }));
+  const act = row => ({ row, records: [rowRecord('spots', row)], table: 'spots', of: row.id, saw: null, what: row.title });
+  await post(rows.map(act));
+})"""
+
+
+def check_what_waits_in_parts(scene):
+    """Of hundreds of acts that wait the list has some, and more when they are asked for; an item that says the same
+    stays."""
+    seat, crew = scene.begin()
+    seat.kill()
+    crew.value(f"({MANY})(500)")
+    for there, behind in ((50, 450), (100, 400), (150, 350)):
+        crew.page.wait(f"byId('outbox').children.length === {there} && !byId('behind').hidden")
+        expect(crew.text("behind"), f"Show more of what waits ({behind} behind these)", "the button below the list")
+        crew.press("behind")
+    crew.value("window.first = byId('outbox').firstChild; recount()")
+    expect(crew.value("byId('outbox').firstChild === first"), True, "an item that says the same stays")
+    expect(crew.value("byId('outbox').children.length"), 200, "items behind three presses")
+
+
+# Counts how often all acts are read, and how often list, marks and what waits are drawn.
+COUNTED = """(() => {
+  window.counts = { read: 0, listed: 0, marks: 0, waits: 0 };
+  const all = IDBObjectStore.prototype.getAll;
+  IDBObjectStore.prototype.getAll = function (...words) {
+    if (this.name === 'acts') counts.read += 1;
+    return all.apply(this, words);
+  };
+  const [rows, marks, waits] = [showRows, showMarks, showWaiting];
+  showRows = () => { counts.listed += 1; rows(); };
+  showMarks = () => { counts.marks += 1; marks(); };
+  showWaiting = () => { counts.waits += 1; waits(); };
+})()"""
+# Sends what waits, and answers in how many milliseconds it is all in the package.
+SENT = """(async () => {
+  clearTimeout(later);
+  const began = performance.now();
+  await send();
+  return performance.now() - began;
+})()"""
+
+
+def check_300_acts_over_5000_rows(scene):
+    """While hundreds of acts are sent all of them are read a few times, and what is shown is drawn each 200
+    milliseconds at most; all stand."""
+    seat, crew = with_trees(scene, 5000 - STONES)
+    crew.page.wait("!sending")
+    seat.kill()
+    crew.value(f"({MANY})(300)")
+    crew.page.wait("outbox.waiting.length === 300 && !sending")
+    crew.value(COUNTED)
+    seat.start()
+    took = crew.value(SENT)
+    counts = crew.value("counts")
+    print(f"    {took:.0f} ms, {counts}")
+    expect(crew.value("outbox.waiting.length"), 0, "what waits")
+    most = took / 200 + 5
+    assert max(counts["listed"], counts["marks"], counts["waits"]) <= most, f"{counts} in {took:.0f} ms"
+    assert counts["read"] <= counts["waits"] + 5, f"all acts are read too often: {counts}"
+    assert took < 60_000, f"300 acts take {took:.0f} ms"
+    expect(crew.value("[byId('rows').children.length, byId('outbox').children.length]"), [100, 0], "items of the lists")
+    expect(len(rows_of(seat)), 5300, "the rows")
+
+
+# Counts which photos are written, and how many pixels of pictures are there at one time.
+PICTURES = """(() => {
+  window.wrote = [], window.drew = 0, window.pixels = 0, window.mostPixels = 0;
+  const put = IDBObjectStore.prototype.put, draw = window.createImageBitmap, close = ImageBitmap.prototype.close;
+  IDBObjectStore.prototype.put = function (it, key) {
+    if (it?.byteLength) wrote.push(key);
+    return put.call(this, it, key);
+  };
+  window.createImageBitmap = async (...words) => {
+    drew += 1;
+    const image = await draw(...words);
+    pixels += image.width * image.height;
+    mostPixels = Math.max(mostPixels, pixels);
+    return image;
+  };
+  ImageBitmap.prototype.close = function () {
+    pixels -= this.width * this.height;
+    close.call(this);
+  };
+})()"""
+KEPT_PHOTOS = "done(outbox.store.transaction('photos').objectStore('photos').getAllKeys()).then(it => it.length)"
+
+
+def check_photos_are_written_once(scene):
+    """Each photo of a form is written once, and drawn once, however many there are; those of a form that is closed are
+    gone."""
+    seat, crew = scene.begin()
+    crew.value(PICTURES)
+    large = scene.folder / "large.png"
+    large.write_bytes(picture(1200, 900, (40, 160, 80)))
+    crew.press("fresh")
+    crew.fill(title="Six", photos=[large] * 6)
+    expect(crew.value(KEPT_PHOTOS), 6, "photos that are kept")
+    found = crew.value("[wrote.length, new Set(wrote).size, drew]")
+    expect(found, [6, 6, 6], "photos written, and pictures drawn")
+    crew.save()
+    crew.wait_until_it_stands()
+    expect(crew.value("[wrote.length, new Set(wrote).size]"), [6, 6], "photos written behind the save")
+    crew.press("fresh")
+    crew.fill(photos=[large])
+    for _ in range(2):
+        crew.press("leave")
+    crew.page.wait(f"byId('edit').hidden && {KEPT_PHOTOS}.then(it => it === 0)")
+    expect_quiet(crew)
+    number, _ = by_title(rows_of(seat), "Six")
+    expect(len(related_of(seat, number)), 6, "its photos")
+
+
+def check_20_photos_of_12_megapixels(scene):
+    """Of many large photos one is there to be drawn at a time, also where a form comes back with them; what is shown of
+    them is small."""
+    seat, crew = scene.begin()
+    large = scene.folder / "megapixels.png"
+    large.write_bytes(picture(4000, 3000, (40, 160, 80)))
+    crew.value(PICTURES)
+    crew.press("fresh")
+    crew.write("title", "Twenty")
+    crew.page.choose_files("byId('pictures')", [large] * 20)
+    there = "form?.photos.length === 20 && form.coming === 0 && byId('thumbnails').ariaBusy === 'false'"
+    crew.page.wait(there, 300)
+    expect(crew.value("[wrote.length, new Set(wrote).size, mostPixels]"), [20, 20, 12_000_000], "photos written, and pixels at a time")
+    seen = "[...byId('thumbnails').querySelectorAll('img')].map(it => Math.max(it.naturalWidth, it.naturalHeight))"
+    crew.page.wait(f"{seen}.length === 20 && {seen}.every(it => it > 0)")
+    assert max(crew.value(seen)) <= 400, f"what is shown of them: {crew.value(seen)}"
+    crew.page.wait(f"{KEPT_PHOTOS}.then(it => it === 20)")
+    crew.save()
+    crew.wait_until_it_stands(120)
+    crew.value("mostPixels = 0; open(rowsNow().find(it => it.title === 'Twenty')); 0")
+    crew.page.wait(f"byId('thumbnails').ariaBusy === 'false' && {seen}.length === 20", 120)
+    expect(crew.value("mostPixels"), 2048 * 1536, "pixels at a time where the row is opened")
+    number, _ = by_title(rows_of(seat), "Twenty")
+    expect(len(related_of(seat, number)), 20, "its photos")
+
+
+def check_a_press_in_another_form(scene):
+    """Who pressed Remove once in one form removes nothing by one press in another, also where a browser tells nothing
+    of a button that is hidden."""
+    seat, crew = scene.begin()
+    crew.value("addEventListener('blur', event => event.isTrusted && event.stopImmediatePropagation(), true); 0")
+    crew.open("Stone 5")
+    crew.press("remove")
+    expect(crew.text("remove"), "Remove: press again", "the button")
+    crew.press("leave")
+    crew.open("Stone 4")
+    expect(crew.text("remove"), "Remove", "the button in another form")
+    crew.press("remove")
+    expect(crew.value("[byId('edit').hidden, outbox.waiting.length]"), [False, 0], "behind one press")
+    expect(sorted(rows_of(seat)), list(range(1, STONES + 1)), "the rows")
+
+
+def check_numbers_of_the_system_that_was_shown(scene):
+    """A place that was typed is of the system that stood beside it, also where another map is shown when it is saved."""
+    seat, crew = scene.begin()
+    crew.press("fresh")
+    crew.fill(title="Typed")
+    crew.write("east", "500400.5")
+    crew.write("north", "5600500")
+    expect(crew.text("system"), "in metres of system 25832", "the system beside it")
+    crew.value("byId('pyramids').value = 'plan'; byId('pyramids').dispatchEvent(new Event('change')); 0")
+    expect(crew.text("system"), "in metres of system 25832", "the system beside another map")
+    crew.save()
+    crew.wait_until_it_stands()
+    expect_quiet(crew)
+    expect(by_title(rows_of(seat), "Typed")[1], ("@25832:500400.5/5600500", 0), "the row")
+
+
+def check_a_drawing_with_a_clear_ground(scene):
+    """A drawing whose ground is clear has a white one as a photo: black words on it can be read."""
+    _, crew = scene.begin()
+    drawing = scene.folder / "drawing.png"
+    drawing.write_bytes(clear_picture(40, 30))
+    crew.press("fresh")
+    crew.fill(title="Sketch", photos=[drawing])
+    pixel = """(async () => {
+      const image = await createImageBitmap(new Blob([form.photos[0].bytes]));
+      const canvas = new OffscreenCanvas(image.width, image.height);
+      const drawing = canvas.getContext('2d');
+      drawing.drawImage(image, 0, 0);
+      return [...drawing.getImageData(20, 15, 1, 1).data];
+    })()"""
+    expect(crew.value(pixel), [255, 255, 255, 255], "a pixel of the ground")
+    expect_quiet(crew)
+
+
+def clear_picture(wide, high):
+    """A PNG that is clear all over."""
+    head = struct.pack(">IIBBBBB", wide, high, 8, 6, 0, 0, 0)
+    rows = zlib.compress((b"\0" + bytes(4) * wide) * high)
+    chunks = page_map.chunk(b"IHDR", head) + page_map.chunk(b"IDAT", rows) + page_map.chunk(b"IEND", b"")
+    return b"\x89PNG\r\n\x1a\n" + chunks
 
 
 CONTRAST = """(() => {
@@ -1122,6 +1714,160 @@ CONTRAST = """(() => {
     return [(one + 0.05) / (other + 0.05), it.tagName, it.textContent.slice(0, 30)];
   }).filter(([ratio]) => ratio < 4.5);
 })()"""
+
+
+# Has the page look as where a browser is asked for all of some things: its rules for these are rules for all then.
+LOOK_AS = """(words => {
+  const rules = [...document.styleSheets].filter(it => it.ownerNode.tagName === 'STYLE').flatMap(it => [...it.cssRules]);
+  const asks = it => it.media?.mediaText.split(' and ').every(part => words.some(word => part.includes(word)));
+  const asked = rules.filter(asks);
+  for (const it of asked) it.media.mediaText = 'all';
+  return asked.length;
+})"""
+
+
+def check_by_night_and_with_more_contrast(scene):
+    """Each text stands out from its ground at night too, and by 7 to 1 where more contrast is asked for; where a browser
+    gives all colours a button that is pressed has its own."""
+    for words, least in ((["scheme: dark"], 4.5), (["contrast: more"], 7), (["scheme: dark", "contrast: more"], 7)):
+        _, crew = scene.begin()
+        crew.press("fresh")
+        assert crew.value(f"{LOOK_AS}({json.dumps(words)})"), f"the page has no rules for {words}"
+        crew.value("say('test', 'A message'); byId('told').textContent = 'No'; 0")
+        dim = crew.value(CONTRAST.replace("ratio < 4.5", f"ratio < {least}"))
+        expect([it for it in dim if it[1] != "BUTTON" or it[0] < 4.5], [], f"texts that don't stand out, {words}")
+        scene.screenshot(crew, "-".join(it.split()[-1] for it in words))
+    _, crew = scene.begin()
+    expect(crew.value(f"{LOOK_AS}(['forced-colors'])") > 0, True, "the page knows forced colours")
+    crew.press("fresh")
+    grounds = "['tap', 'middle'].map(it => getComputedStyle(byId(it)).backgroundColor)"
+    pressed, other = crew.value(grounds)
+    assert pressed != other, f"a button that is pressed is {pressed}, as another"
+
+
+NAMES = """[...document.querySelectorAll('button, input, select, textarea')].filter(it => it.checkVisibility()).map(it =>
+  it.getAttribute('aria-label') ?? (it.labels?.[0]?.firstChild.data ?? it.innerText).trim())"""
+
+
+def check_names_of_what_is_pressed(scene):
+    """Each field and button has a name that no other has, the page has a head and the panel a name; coordinates aren't
+    told aloud at each move."""
+    _, crew = scene.begin()
+    crew.press("fresh")
+    names = crew.value(NAMES)
+    expect([it for it in set(names) if not it or names.count(it) > 1], [], "names that are none, or of two")
+    heads = crew.value("[...document.querySelectorAll('h1, h2, legend')].filter(it => it.checkVisibility()).map(it => it.firstChild.data.trim())")
+    expect([it for it in heads if heads.count(it) > 1], [], "heads of one name")
+    expect(crew.value("[byId('package').tagName, byId('panel').ariaLabel]"), ["H1", "Work, tables and media"], "the head, and the panel's name")
+    live = "(it => it.tagName === 'OUTPUT' || it.role !== null || it.ariaLive !== null)(byId('position'))"
+    expect(crew.value(live), False, "coordinates are told aloud")
+    expect_quiet(crew)
+
+
+def check_the_focus_in_what_waits(scene):
+    """Where an item of what waits says something else the focus stays on its button; where the item goes it is on the
+    list's head."""
+    seat, crew = scene.begin()
+    seat.kill()
+    crew.new(title="Waits")
+    crew.page.wait("outbox.waiting.length === 1 && !sending")
+    crew.value("failures.set(outbox.waiting[0].saved, { count: 2, why: 'no' }); showWaiting()")
+    crew.value("byId('outbox').querySelector('button').focus(); window.button = document.activeElement; 0")
+    crew.value("failures.set(outbox.waiting[0].saved, { count: 3, why: 'no' }); showWaiting()")
+    expect(crew.value("[button.isConnected, document.activeElement.innerText]"), [False, "Throw away"], "the focus behind other words")
+    crew.page.press("Enter", "Enter")
+    crew.page.wait("outbox.waiting.length === 0 && byId('outbox').children.length === 0")
+    expect(crew.value("document.activeElement.id"), "waits", "the focus where the item has gone")
+
+
+def check_words_above_the_map(scene):
+    """Where the program is gone, or the day is ended, no tile is told to be missing; that a tile is no picture is told
+    until the map is moved."""
+    seat, crew = scene.begin()
+    page = crew.page
+    zoom = "map.setView([5600500, 500500], {}, {{ animate: false }}); 0"
+    page.wait("document.querySelector('img.leaflet-tile[src]') !== null")
+    crew.value("window.real = drawn; drawn = async () => false; " + zoom.format(1))
+    page.wait("byId('messages').innerText.includes('is no picture that this browser draws')")
+    page.wait("document.querySelector('img.leaflet-tile:not(.leaflet-tile-loaded)') === null")
+    crew.value("drawn = real; " + zoom.format(2))
+    expect("is no picture" in crew.text("messages"), False, "what is said behind a move")
+    seat.kill()
+    crew.value(zoom.format(3))
+    page.wait("byId('messages').innerText.startsWith('The package doesn\\'t answer')")
+    page.wait("document.querySelector('img.leaflet-tile:not(.leaflet-tile-loaded)') === null")
+    expect(crew.value("byId('none').hidden"), True, "a tile is told to be missing while the program is gone")
+    seat.start()
+    page.wait("byId('messages').innerText === '' && document.querySelector('img.leaflet-tile[src]') !== null")
+    for _ in range(2):
+        crew.press("end")
+    page.wait("byId('state').innerText.startsWith('the day is ended')")
+    expect(crew.value("byId('state').className"), "", "the state's colour at the end of the day")
+    crew.value(zoom.format(1))
+    page.wait("document.querySelector('img.leaflet-tile:not(.leaflet-tile-loaded)') === null")
+    page.wait("new Promise(good => requestAnimationFrame(() => requestAnimationFrame(() => good(true))))")
+    expect(crew.value("byId('none').hidden"), True, "a tile is told to be missing behind the end of the day")
+
+
+def check_a_map_without_a_zoom(scene):
+    """A map that has no matrix yet is named, with what helps."""
+    file = scene.folder / "bare.mmpkg"
+    bare = record(["srs", 7, "plan", "NONE", 7, "metres of a plan", ""]) + record(["pyramid", "bare", "Bare map", 7, 0, 0, 4_096_000_000, 4_096_000_000, "two"])
+    new_package(file, bare + record(["table", "spots", "attributes", "Spots"]))
+    take_in(file, scene.folder / "bare")
+    seat = Seat(file)
+    scene.seats.append(seat)
+    crew = scene.crew(seat.address)
+    words = ("No zoom is laid out yet for Bare map: there is nothing to see of it until the office lays one out and puts "
+             "in tiles. Open the package again then.")  # fmt: skip
+    expect(crew.text("messages"), words, "what is said")
+    expect_quiet(crew)
+
+
+def check_a_new_row_while_the_panel_is_hidden(scene):
+    """With the panel hidden the map has a button for a new row, which shows the form; else it has none."""
+    _, crew = scene.begin(width=390, height=800, touch=True)
+    expect(crew.value("byId('anew').hidden"), True, "the button beside the panel")
+    touch(crew, "toggle")
+    crew.page.wait("byId('panel').hidden && !byId('anew').hidden")
+    touch(crew, "anew")
+    crew.page.wait("form !== null && form.fresh && !byId('panel').hidden && byId('anew').hidden")
+    expect_quiet(crew)
+
+
+def check_a_new_row_on_small_screens(scene):
+    """In the form of a new row the buttons for photos are to be seen without a scroll, and nothing leads to its place;
+    with a phone's keys up nothing of the map hangs over the form."""
+    inside = "(it => { const box = byId(it).getBoundingClientRect(); return [box.top, box.bottom]; })"
+    for wide, high in ((360, 740), (800, 1280), (1024, 768)):
+        _, crew = scene.begin(width=wide, height=high, touch=True)
+        touch(crew, "fresh")
+        crew.page.wait("form !== null && byId('thumbnails').ariaBusy === 'false'")
+        top, bottom = crew.value("(it => [it.top, it.bottom])(byId('camera').closest('label').getBoundingClientRect())")
+        above, below = crew.value(f"{inside}('panel')")[0], crew.value(f"{inside}('acts')")[0]
+        assert above <= top and bottom <= below, f"'Take a photo' at {top} to {bottom} of {above} to {below}, {wide} pixels"
+        expect(crew.value("byId('lead').hidden"), True, "a way that leads to a row that is being made")
+        crew.page.close()
+        scene.pages.remove(crew.page)
+    _, crew = scene.begin(width=360, height=450, touch=True)
+    touch(crew, "fresh")
+    for element in ("title", "search"):
+        crew.value(f"byId('{element}').focus(); 0")
+        over = "[...byId('place').querySelectorAll('button, a')].filter(it => it.checkVisibility() && it.getBoundingClientRect().bottom > byId('place').getBoundingClientRect().bottom).map(it => it.id || it.className)"
+        expect(crew.value(over), [], f"what hangs over the form, with the keys for {element} up")
+        scene.screenshot(crew, f"keys-{element}")
+
+
+def check_a_title_of_1000_bytes(scene):
+    """A title of 1,000 bytes takes some lines of the list, and of what waits, and not the screen."""
+    seat, crew = scene.begin()
+    seat.kill()
+    title = " ".join(["boundary"] * 111)
+    crew.new(title=title)
+    crew.page.wait("byId('outbox').children.length === 1")
+    expect(crew.rows()[0], title, "the title in the list")
+    high = crew.value("[byId('rows').firstChild, byId('outbox').firstChild].map(it => it.offsetHeight)")
+    assert max(high) < 110, f"the items are {high} pixels high"
 
 
 def check_small_screens_and_sunlight(scene):
@@ -1146,6 +1892,10 @@ def check_small_screens_and_sunlight(scene):
         crew.value("tellState('the package does not answer', 'gone'); byId('told').textContent = 'No'; 0")
         expect(crew.value(CONTRAST), [], "texts that don't stand out")
         scene.screenshot(crew, f"screen-{wide}")
+    for wide in (1024, 1280):
+        _, crew = scene.begin(width=wide, height=768)
+        for left in ("", "2 to send, 1 not saved"):
+            expect(crew.value(f"tellEnd('{left}'), {whole}"), True, f"the end of the day is told whole at {wide} pixels, {left!r}")
 
 
 def check_the_way_to_what_waits(scene):
@@ -1153,7 +1903,7 @@ def check_the_way_to_what_waits(scene):
     seat, crew = scene.begin(width=360, height=740, touch=True)
     seat.kill()
     crew.new(title="Waits")
-    crew.page.wait("waiting.length === 1")
+    crew.page.wait("outbox.waiting.length === 1")
     touch(crew, "toggle")
     touch(crew, "state")
     top, bottom = crew.value("(it => [it.top, it.bottom])(byId('outbox').firstChild.getBoundingClientRect())")
@@ -1179,6 +1929,254 @@ def check_by_finger(scene):
     assert re.fullmatch(r"@25832:5005[0-9.]+/56005[0-9.]+", note), note
 
 
+GROUND, WHITE = (200, 180, 20), (255, 255, 255)
+AROUND = [499_000, 5_599_000, 503_000, 5_603_000]
+SETTLED = "!document.querySelector('img.leaflet-tile:not(.leaflet-tile-loaded), .leaflet-zoom-anim, .leaflet-pan-anim')"
+
+
+@contextlib.contextmanager
+def with_maps(scene, file=None, how=None, **named):
+    """A crew at a page with maps behind the work, and their server."""
+    seat = Seat(file) if file else scene.seat()
+    if file:
+        scene.seats.append(seat)
+    with maps_drawn.served(f"http://127.0.0.1:{seat.port}", **named) as server:
+        crew = scene.crew(seat.address, behind=maps_drawn.told_behind(server), **(how or {}))
+        crew.page.wait("lying.length > 0")
+        yield seat, crew, server
+
+
+def colour_at(crew, east, north):
+    """What a screenshot has at a place of the map, once all that was asked for is drawn."""
+    crew.value("byId('map').classList.remove('centre'); 0")
+    crew.page.wait(SETTLED)
+    crew.value("new Promise(good => requestAnimationFrame(() => requestAnimationFrame(() => good(1))))")
+    where = f"map.latLngToContainerPoint([{north}, {east}]), byId('map').getBoundingClientRect()"
+    x, y = crew.value(f"((it, box) => [box.x + it.x, box.y + it.y])({where})")
+    return page_map.read_png(crew.page.screenshot())[int(y)][int(x)]
+
+
+def listed(crew):
+    """The maps behind the work as the list has them: the name, and what is said of it."""
+    return crew.value("lying.map(it => [it.map.name, it.words.innerText])")
+
+
+def check_maps_behind_the_work(scene):
+    """A picture is seen where the package has no tile, also outside its map, below its tiles, as strong as it is chosen, and not where it is off."""
+    ground = maps_drawn.Ground(GROUND, AROUND)
+    with with_maps(scene, **{"ortho.tif": ground, "notes.txt": "GDAL opens no map of it"}) as (_, crew, _server):
+        crew.value("map.setView([5600950, 501000], 1, { animate: false }); 0")
+        expect(colour_at(crew, 501_120, 5_601_130), GROUND, "the picture outside the package's map")
+        own = colour_at(crew, 500_930, 5_600_900)
+        assert own != GROUND, "the picture lies over the package's tiles"
+        expect(crew.value("byId('none').hidden"), True, "that no tile is here isn't said where a picture is")
+        expect(listed(crew), [["ortho.tif", ""], ["notes.txt", "can't be shown: GDAL opens no map of it"]], "the list")
+        expect(crew.value("[...byId('layers').querySelectorAll('label')].map(it => it.innerText)"), ["Base map, of the package", "ortho.tif"], "what can be chosen")
+        scene.screenshot(crew, "behind")
+        switch(crew, 0, "[type=checkbox]", "checked = false")
+        expect(colour_at(crew, 500_930, 5_600_900), GROUND, "the picture where the package's map is off")
+        switch(crew, 1, "[type=range]", "value = 50")
+        found = colour_at(crew, 501_120, 5_601_130)
+        assert all(abs(it - (one + other) / 2) <= 2 for it, one, other in zip(found, GROUND, (228, 232, 234))), f"half as strong: {found}"
+        switch(crew, 1, "[type=checkbox]", "checked = false")
+        expect(colour_at(crew, 501_120, 5_601_130), (228, 232, 234), "where the picture is off")
+        crew.reload()
+        crew.page.wait("lying.length > 0")
+        expect(crew.value("[own.on, lying[0].look.on, lying[0].look.strength]"), [False, False, 50], "what was chosen, when the page is loaded again")
+        crew.value("map.setView([5700000, 600000], 1, { animate: false }); 0")
+        switch(crew, 1, "[type=checkbox]", "checked = true")
+        expect(listed(crew)[0], ["ortho.tif", "lies elsewhere"], "what is said where it isn't")
+        expect_quiet(crew)
+
+
+def switch(crew, at, what, to):
+    """Changes a field of a map in the list."""
+    crew.value(f"(it => {{ it.{to}; it.dispatchEvent(new Event('change')); }})(byId('layers').children[{at}].querySelector('{what}')); 0")
+
+
+def check_parts_in_sight_alone(scene):
+    """Parts are asked for where the map is looked at; those that nobody looks at any more before they are drawn aren't drawn."""
+    ground = maps_drawn.Ground(GROUND, [400_000, 5_500_000, 600_000, 5_700_000])
+    with with_maps(scene, **{"ortho.tif": ground}) as (_, crew, server):
+        crew.page.wait(SETTLED)
+        near = [500_000 - 2048, 5_600_000 - 2048, 501_024 + 2048, 5_601_024 + 2048]
+        assert ground.asked and all(near[0] <= it[0] and near[1] <= it[1] and it[2] <= near[2] and it[3] <= near[3] for it in ground.asked), ground.asked
+        workers, before = server.maps.threads._max_workers, len(ground.asked)
+        while ground.begun.acquire(blocking=False):
+            pass
+        ground.go.clear()
+        crew.value("map.setView([5650000, 550000], 1, { animate: false }); 0")
+        for _ in range(workers):
+            assert ground.begun.acquire(timeout=WAIT_SECONDS), "no part is begun"
+        crew.value("map.setView([5510000, 410000], 1, { animate: false }); 0")
+        wait_until(lambda: server.count_of_gone() >= maps_drawn.CONNECTIONS, "the requests of before are taken back")
+        ground.go.set()
+        crew.page.wait(SETTLED)
+        far = [it for it in ground.asked[before:] if it[0] > 500_000]
+        assert len(far) <= workers, f"{len(far)} parts were drawn that nobody waited for, {workers} at a time"
+        assert any(it[0] < 420_000 for it in ground.asked), "the parts that are looked at"
+        expect(crew.text("mapped"), "", "what is said")
+        expect_quiet(crew)
+
+
+def check_shapes_behind_the_work(scene):
+    """Parcels are drawn above the package's tiles with names by a column, those in sight alone, and asked for anew where that has moved."""
+    parcels, ground = maps_drawn.Parcels([500_000, 5_600_000, 501_000, 5_601_000]), maps_drawn.Ground(GROUND, AROUND)
+    with with_maps(scene, **{"parcels.gpkg": parcels, "ortho.tif": ground}) as (_, crew, _server):
+        crew.value("map.setView([5600500, 500500], 2, { animate: false }); 0")
+        there = "lying[0].layer.shapes?.getLayers().length ?? 0"
+        crew.page.wait(f"{there} > 0")
+        expect(crew.value("document.querySelectorAll('.named').length"), 0, "names where none are chosen")
+        switch(crew, 1, "select", "value = 'parcel'")
+        crew.page.wait("document.querySelectorAll('.named').length > 10")
+        expect(crew.value("[...document.querySelectorAll('.named')].every(it => /^parcel [0-9]+.[0-9]+$/.test(it.innerText))"), True, "the names")
+        overlaps = """(boxes => boxes.some((one, at) => boxes.slice(at + 1).some(it => one.left < it.right && it.left < one.right
+          && one.top < it.bottom && it.top < one.bottom)))([...document.querySelectorAll('.named')].map(it => it.getBoundingClientRect()))"""
+        expect(crew.value(overlaps), False, "whether one name lies over another")
+        scene.screenshot(crew, "parcels")
+        asked = len(parcels.asked)
+        crew.value("map.panBy([20, 0], { animate: false }); 0")
+        time.sleep(0.6)
+        expect(len(parcels.asked), asked, "what is asked where the map has hardly moved")
+        crew.value("map.setZoom(map.getZoom() + 1, { animate: false }); 0")
+        wait_until(lambda: len(parcels.asked) == asked + 1, "the shapes of another zoom")
+        crew.page.wait("document.querySelectorAll('.named').length > 0 && lying[0].layer.pixel <= 1")
+        expect(crew.value(overlaps), False, "whether one name lies over another, nearer")
+        # Their order is kept, and the first of two pictures lies on top.
+        crew.press("byId('layers').children[1].querySelector('.down')")
+        expect([it[0] for it in listed(crew)], ["ortho.tif", "parcels.gpkg"], "the order")
+        expect(crew.value("Object.values(lying).map(it => Number(map.getPane(paneOf(it)).style.zIndex) > 200)"), [False, True], "which lies above the tiles")
+        crew.reload()
+        crew.page.wait("lying.length > 0")
+        expect([it[0] for it in listed(crew)], ["ortho.tif", "parcels.gpkg"], "the order, when the page is loaded again")
+        crew.page.wait("document.querySelectorAll('.named').length > 0")
+        expect_quiet(crew)
+
+
+def check_a_map_behind_a_package_without_one(scene):
+    """A package without any pyramid works on a map behind it, in a system that suits that; without one it says that it has no map."""
+    file = scene.folder / f"bare-{len(scene.seats)}.mmpkg"
+    new_package(file, "".join(map(record, [["table", "spots", "attributes", "Spots"], ["row", "spots", 1, "Stone 1", "@25832:500500/5600500", 0]])))
+    take_in(file, scene.folder / "without")
+    with with_maps(scene, file, **{"ortho.tif": maps_drawn.Ground(GROUND, AROUND)}) as (seat, crew, _server):
+        expect(crew.value("[shown.srs_id, shown.table, byId('messages').innerText, byId('none').hidden]"), [25832, "", "", True], "the map")
+        expect(colour_at(crew, 500_400, 5_600_900), GROUND, "the map's colour")
+        expect(crew.value("marked.size"), 1, "marks")
+        crew.new(title="Oak", place=(500_400, 5_600_500))
+        crew.wait_until_it_stands()
+        scene.screenshot(crew, "bare")
+        expect_quiet(crew)
+        note, _ = by_title(rows_of(seat), "Oak")[1]
+        told = re.fullmatch(r"@25832:([0-9.]+)/([0-9.]+)", note)
+        assert told and abs(float(told[1]) - 500_400) < 10 and abs(float(told[2]) - 5_600_500) < 10, note
+    seat = Seat(file)
+    scene.seats.append(seat)
+    crew = scene.crew(seat.address)
+    expect(crew.value("[map, byId('messages').innerText, byId('maps').hidden]"), [None, "The package has no map yet.", True], "without a map behind it")
+
+
+def check_the_maps_address_alone(scene):
+    """The policy opens for the one address of the maps: no other port, and nothing else at that port; without maps for none."""
+    with with_maps(scene, **{"ortho.tif": maps_drawn.Ground(GROUND, AROUND)}) as (seat, crew, server):
+        asked = "fetch('{}').then(it => it.status, () => 'kept')"
+        expect(crew.value(asked.format(f"{server.address}maps?system=25832")), 200, "the maps")
+        with socket.create_server(("127.0.0.1", 0)) as other:
+            other.settimeout(1)
+            there = f"http://127.0.0.1:{other.getsockname()[1]}"
+            for address in (f"{there}/{server.token}/maps", f"http://127.0.0.1:{server.server_port}/other/maps", f"http://localhost:{server.server_port}/"):
+                expect(crew.value(asked.format(address)), "kept", f"a fetch of {address}")
+            plain = scene.crew(seat.address)
+            expect(plain.value(asked.format(f"{server.address}maps?system=25832")), "kept", "a fetch of the maps by a page that wasn't told of them")
+            expect(plain.value("byId('maps').hidden"), True, "whether that page has no list of maps")
+            plain = scene.crew(seat.address, behind=f"x&maps={there.rsplit(':', 1)[1]}/short")
+            expect(plain.value("[MAPS, byId('maps').hidden, packageFile]"), [None, True, "x"], "a page whose address tells no maps")
+            with contextlib.suppress(TimeoutError):
+                other.accept()
+                raise AssertionError("another address was asked")
+
+
+def check_maps_that_end(scene):
+    """Where the program of maps ends that is said in the list, and the work goes on; nothing of it waits."""
+    with with_maps(scene, **{"ortho.tif": maps_drawn.Ground(GROUND, AROUND), "parcels.gpkg": maps_drawn.Parcels(AROUND)}) as (seat, crew, server):
+        crew.page.wait(SETTLED)
+        server.end()
+        crew.value("map.setView([5600950, 501900], 2, { animate: false }); 0")
+        crew.page.wait("byId('mapped').innerText.startsWith(\"The maps don't answer\")")
+        expect(crew.text("messages"), "", "what is said above the map")
+        crew.new(title="Spring", place=(500_400, 5_600_500))
+        crew.wait_until_it_stands()
+        expect_quiet(crew, "ERR_", "CORS", "NetworkError", "Cross-Origin")
+        by_title(rows_of(seat), "Spring")
+
+
+def photo_with_a_place(scene, crew, name, degrees=True):
+    """A JPEG of the browser's making, with Exif that tells 50° 33' 7.2" N, 9° 0' 18" E where it is asked for."""
+    told = crew.value("(it => (it.width = 400, it.height = 300, it.getContext('2d').fillRect(0, 0, 200, 150), it.toDataURL('image/jpeg')))(document.createElement('canvas'))")
+    data = base64.b64decode(told.split(",")[1])
+    rationals = struct.pack("<12I", 50, 1, 33, 1, 72, 10, 9, 1, 0, 1, 18, 1)
+    gps = struct.pack("<H", 4) + b"".join(struct.pack("<HHI", *it) for it in ((1, 2, 2),)) + b"N\0\0\0" + struct.pack("<HHII", 2, 5, 3, 80)
+    gps += struct.pack("<HHI", 3, 2, 2) + b"E\0\0\0" + struct.pack("<HHII", 4, 5, 3, 104) + struct.pack("<I", 0)
+    head = struct.pack("<2sHI", b"II", 42, 8) + struct.pack("<HHHII", 1, 0x8825, 4, 1, 26) + struct.pack("<I", 0)
+    exif = b"Exif\0\0" + head + gps + rationals
+    assert len(head) == 26 and len(head + gps) == 80, (len(head), len(head + gps))
+    file = scene.folder / name
+    file.write_bytes(data[:2] + (b"\xff\xe1" + struct.pack(">H", len(exif) + 2) + exif if degrees else b"") + data[2:])
+    return file
+
+
+def check_a_photos_own_place(scene):
+    """The place that a photo tells is offered to the form and never taken unasked; where it can't be reckoned that is said."""
+    seat, crew = scene.begin()
+    photo, plain = photo_with_a_place(scene, crew, "told.jpg"), photo_with_a_place(scene, crew, "plain.jpg", degrees=False)
+    crew.press("fresh")
+    crew.fill(title="By the photo", photos=[plain])
+    expect(crew.value("byId('shot').hidden"), True, "an offer without a place")
+    crew.fill(photos=[plain, photo])
+    crew.page.wait("!byId('shot').hidden")
+    expect([crew.value(f"byId('{it}').value") for it in ("east", "north")], ["", ""], "the place before the button is pressed")
+    crew.press("shot")
+    # By gdaltransform -s_srs EPSG:4258 -t_srs EPSG:25832.
+    expect([crew.value(f"byId('{it}').value") for it in ("east", "north")], ["500354.22", "5600007.53"], "the photo's place")
+    scene.screenshot(crew, "photo-place")
+    crew.save()
+    crew.wait_until_it_stands()
+    crew.press("fresh")
+    expect(crew.value("[byId('shot').hidden, byId('noshot').innerText]"), [True, ""], "the next form")
+    crew.fill(title="Unasked", photos=[photo])
+    crew.page.wait("!byId('shot').hidden")
+    crew.value("byId('pyramids').value = 'plan'; byId('pyramids').dispatchEvent(new Event('change')); 0")
+    words = "The photo tells where it was taken, and this page can't reckon that in the map's system."
+    expect(crew.value("[byId('shot').hidden, byId('noshot').innerText]"), [True, words], "the offer in a plan")
+    crew.save()
+    crew.wait_until_it_stands()
+    expect_quiet(crew)
+    rows = rows_of(seat)
+    number, (note, _) = by_title(rows, "By the photo")
+    expect((note, len(related_of(seat, number))), ("@25832:500354.22/5600007.53", 3), "the row")
+    expect(by_title(rows, "Unasked")[1][0], "", "a row whose photo's place nobody took")
+
+
+def check_slips_are_told(scene):
+    """How many words with @ are no place, places are outside all maps, and maps less than a metre, is told below the list."""
+    file = scene.copy()
+    lines = ["row,spots,30,Comma,\"@25832:500100,5/5600100,25\",0", "row,spots,31,Tail,@25832:500100/5600100weg,0", "row,spots,32,Swapped,@25832:5600100/500100,0",
+             "row,spots,33,Address,mail ada@example.org,0", "pyramid,tiny,Tiny map,25832,565000,5933000,567048,5935048,two", "matrix,tiny,0,8,8,256,256,1,1"]
+    mmpkg("run", file, given="\n".join([*lines, ""]).encode())
+    take_in(file, scene.folder / f"page-{scene.count}")
+    seat = Seat(file)
+    scene.seats.append(seat)
+    crew = scene.crew(seat.address)
+    words = "2 rows have a word with @ that is no place; 1 row has its place outside all maps; less than a metre wide or high: Tiny map"
+    expect(crew.text("slips"), words, "what is said")
+    expect(crew.text("messages"), "", "what is said above the map")
+    crew.change("Comma", note="mended")
+    crew.wait_until_it_stands()
+    crew.page.wait("byId('slips').innerText.startsWith('1 row has a word with @')")
+    expect_quiet(crew)
+    _, plain = scene.begin()
+    expect(plain.value("byId('slips').hidden"), True, "a package without slips")
+
+
 def touch(crew, element):
     crew.page.touch([tuple(crew.value(f"({MIDDLE})(byId('{element}'))"))])
 
@@ -1193,9 +2191,12 @@ def main():
         given.keep.mkdir(parents=True, exist_ok=True)
     with tempfile.TemporaryDirectory() as name:
         folder = pathlib.Path(name)
-        with devtools.Browser(given.browser, folder / "profile") as browser:
+        with browsers.start(given.browser, folder / "profile") as browser:
             scene = Scene(folder, browser, given.browser, given.keep)
-            passed, failed = run_checks("crew's page", globals(), given.words, scene.call)
+            # They take what all checks share from here.
+            out, measure = (importlib.import_module(f"crew_{it}_checks") for it in ("out", "measure"))
+            checks = globals() | vars(out) | vars(measure)
+            passed, failed = run_checks("crew's page", checks, given.words, scene.call)
     end(passed, failed)
 
 

@@ -1,12 +1,14 @@
 #!/usr/bin/env bash
-# The Debian package in a fresh Debian: built, looked at by lintian, installed, used and removed. The last line is 'N passed, M failed'.
+# The Debian package in a fresh Debian: built, looked at by lintian, installed, used and removed. The last
+# line is 'N passed, M failed'.
 #
 #     scripts/outside/deb_check.sh [PROGRAM]
 #
-# PROGRAM is the built program: without it the one that the environment's MMPKG names, or else out/mmpkg. The fresh Debian (bookworm, minbase,
-# with python3, libjs-leaflet and curl) is made by debootstrap, which takes a minute or two, and kept packed in a folder of the system's for
-# such files, so that the next look takes seconds. Exit status: 0 all passed, 1 something failed, 77 it can't be made, and nothing was tried:
-# that wants root, Debian's dpkg-dev, lintian and debootstrap, and its servers.
+# PROGRAM is the built program: without it the one that the environment's MMPKG names, or else out/mmpkg. The fresh Debian
+# (bookworm, minbase, with python3, libjs-leaflet and curl) is made by debootstrap, which takes a minute or two, and kept
+# packed in a folder of the system's for such files, so that the next look takes seconds. Exit status: 0 all passed, 1
+# something failed, 77 it can't be made, and nothing was tried: that wants root, Debian's dpkg-dev, lintian and
+# debootstrap, and its servers.
 set -u -o pipefail
 
 top=$(cd "$(dirname "$0")/../.." && pwd)
@@ -58,8 +60,8 @@ inside() {
 
 # All that stands in the fresh Debian, but what dpkg keeps of its own work.
 list_files() {
-    find "$root" -xdev \( -path "$root/var/lib/dpkg" -o -path "$root/var/log" -o -path "$root/clone" \) -prune -o -printf '%P %m %s\n' |
-        grep -v '^\(var/lib\|var\|\) ' | sort
+    local own=(\( -path "$root/var/lib/dpkg" -o -path "$root/var/log" -o -path "$root/clone" \))
+    find "$root" -xdev "${own[@]}" -prune -o -printf '%P %m %s\n' | grep -v '^\(var/lib\|var\|\) ' | sort
 }
 
 build() {
@@ -85,15 +87,26 @@ licences() {
 
 install_package() {
     list_files >"$folder/before"
-    cp "$package" "$root/mmpkg.deb" && inside dpkg -i /mmpkg.deb && rm "$root/mmpkg.deb" && cmp "$MMPKG" "$root/usr/bin/mmpkg"
+    cp "$package" "$root/mmpkg.deb"
+    inside dpkg -i /mmpkg.deb && rm "$root/mmpkg.deb" && cmp "$MMPKG" "$root/usr/bin/mmpkg"
+}
+
+# A package of a later day is a newer one to dpkg and apt, which leave an equal version as it is.
+is_newer() {
+    local day newer
+    day=$(dpkg-deb -f "$package" Version | sed 's/.*+//')
+    newer=$(SOURCE_DATE_EPOCH=$(date -ud "$day + 1 day" +%s) scripts/deb.sh | sed -n 's/^packed //p')
+    [ -n "$newer" ] && mv "$newer" "$folder/newer.deb"
+    dpkg --compare-versions "$(dpkg-deb -f "$folder/newer.deb" Version)" gt "$(dpkg-deb -f "$package" Version)"
 }
 
 # Each command of the package answers --help and has a page.
 commands() {
-    local name count=0
+    local name page count=0
     for name in $(inside dpkg -L mmpkg | sed -n 's|^/usr/bin/||p'); do
-        inside "$name" --help >"$folder/help" && [ -s "$folder/help" ] && gzip -t "$root/usr/share/man/man1/$name.1.gz" || return 1
-        ! man --warnings -l "$root/usr/share/man/man1/$name.1.gz" 2>&1 >/dev/null | grep . || return 1
+        page=$root/usr/share/man/man1/$name.1.gz
+        inside "$name" --help >"$folder/help" && [ -s "$folder/help" ] && gzip -t "$page" || return 1
+        ! man --warnings -l "$page" 2>&1 >/dev/null | grep . || return 1
         count=$((count + 1))
     done
     echo "$count commands"
@@ -130,10 +143,11 @@ there_and_back() {
 
 # What a desktop finds: an entry whose command is there, and the type of packages.
 desktop() {
-    local entry=$root/usr/share/applications/mmpkg-crew.desktop
+    local entry=$root/usr/share/applications/mmpkg-crew.desktop type
+    type=$(sed -n 's/.*mime-type type="\([^"]*\)".*/\1/p' "$root/usr/share/mime/packages/mmpkg.xml")
     [ -x "$root/usr/bin/$(sed -n 's/^Exec=\([^ ]*\).*/\1/p' "$entry")" ] || return 1
-    grep -q "^MimeType=$(sed -n 's/.*mime-type type="\([^"]*\)".*/\1/p' "$root/usr/share/mime/packages/mmpkg.xml");$" "$entry" || return 1
-    ! command -v desktop-file-validate >/dev/null || desktop-file-validate "$entry"
+    grep -q "^MimeType=$type;$" "$entry" || return 1
+    ! command -v desktop-file-validate >/dev/null || ! desktop-file-validate "$entry" | grep .
 }
 
 # As a new user: from the installed package to a row with a photo on the map, in this machine's browser.
@@ -149,13 +163,15 @@ remove() {
 [ -x "$MMPKG" ] || { echo "$MMPKG isn't there: scripts/build.sh makes out/mmpkg" && exit 1; }
 [ "$(id -u)" = 0 ] || not_tried "a fresh Debian wants root"
 for it in dpkg-shlibdeps:dpkg-dev lintian:lintian debootstrap:debootstrap man:man-db; do
-    command -v "${it%%:*}" >/dev/null || apt-get install -y --no-install-recommends "${it#*:}" >"$folder/said" 2>&1 || not_tried "${it#*:} isn't there"
+    command -v "${it%%:*}" >/dev/null && continue
+    apt-get install -y --no-install-recommends "${it#*:}" >"$folder/said" 2>&1 || not_tried "${it#*:} isn't there"
 done
 make_debian >"$folder/said" 2>&1 || not_tried "no fresh Debian: $(tail -n 1 "$folder/said")"
 try 'the package is built, twice the same' build
 try 'lintian has no error and no warning' lintian --allow-root --fail-on error,warning "${package:-}"
 try 'the licence of each library is told' licences
 try 'the package is installed, with the program as it was built' install_package
+try 'a package of a later day is newer' is_newer
 try 'each command answers --help, and has a page' commands
 try 'the tours of the documents' tours
 try 'a package goes out and in by the tools' there_and_back

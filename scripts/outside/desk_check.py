@@ -21,7 +21,7 @@ import tempfile
 import threading
 import time
 
-from checks import PROGRAM, TOP, end, expect, mmpkg, run, run_checks
+from checks import PROGRAM, TOP, end, expect, held_port, mmpkg, run, run_checks
 
 sys.path.insert(0, str(TOP / "scripts" / "model"))
 # Behind the line that says where they are.
@@ -32,16 +32,10 @@ from package_views import listing  # noqa: E402
 KEY = "0123456789abcdef"
 PAGE = "viewer"
 # How many seconds an answer may take that the desk owes at once; its own patience with a request that doesn't come.
-AT_ONCE, FIRST_BYTE, WHOLE_REQUEST = 10, 1, 20
-# A journal of so many bytes has its head alone.
-JOURNAL_HEAD = 41
+AT_ONCE, FIRST_BYTE, WHOLE_REQUEST = 60, 1, 20
+# A journal of so many bytes has its head alone; in it the two salts.
+JOURNAL_HEAD, SALTS = 41, slice(16, 24)
 OPENING = b"table,spots,attributes,Spots\nrow,spots,7,Well,by the road,3\n"
-
-
-def free_port():
-    """A port that is free now."""
-    with socket.create_server(("127.0.0.1", 0)) as listener:
-        return listener.getsockname()[1]
 
 
 def long_files_are_errors():
@@ -53,7 +47,8 @@ class Running:
     """A desk that runs on a package in a folder of its own."""
 
     def __init__(self, folder, count=1000, key=KEY, table=PAGE):
-        self.file, self.port = pathlib.Path(folder) / "p.mmpkg", free_port()
+        self.file, self.held = pathlib.Path(folder) / "p.mmpkg", held_port()
+        self.port = self.held.getsockname()[1]
         if not self.file.exists():
             expect(mmpkg("init", self.file), "init ok\n", "init")
         words = [PROGRAM, "desk", self.file, "--port", str(self.port), "--count", str(count), *(["--page", table] if table else [])]
@@ -373,6 +368,18 @@ def check_kills():
     return 5
 
 
+def check_journals_have_salts_by_chance():
+    """The salts of two journals differ, by which no frame of one is taken for the other's: a store's seed is by chance."""
+    salts = set()
+    for _ in range(2):
+        with desk() as it:
+            it.post(OPENING)
+            it.program.kill()
+            it.program.wait()
+            salts.add(it.file.with_name(it.file.name + "-wal").read_bytes()[SALTS])
+    expect(len(salts), 2, f"salts of two journals ({salts})")
+
+
 def no_file_past(it, most):
     """From here on a write of the desk past this length of a file fails."""
     resource.prlimit(it.program.pid, resource.RLIMIT_FSIZE, (most, resource.RLIM_INFINITY))
@@ -438,11 +445,50 @@ def check_the_key():
     expect(len(found), 2, "keys of two desks")
     with tempfile.TemporaryDirectory() as folder:
         for key in ("short", "x" * 65, "0123456789abcde/", "0123456789abcde\u00e9", os.fsdecode(b"0123456789abcde\xff")):
-            words = [PROGRAM, "desk", f"{folder}/none.mmpkg", "--port", str(free_port()), "--count", "1"]
+            words = [PROGRAM, "desk", f"{folder}/none.mmpkg", "--port", str(it.port), "--count", "1"]
             done = subprocess.run(words, capture_output=True, env=os.environ | {"MMPKG_KEY": key}, timeout=AT_ONCE, check=False)
             expect((done.stdout, done.returncode), (b"refused 11\n", 1), f"a desk by the key {key!r}")
         expect(os.listdir(folder), [], "files")
     return 7
+
+
+def as_the_model(it, path, key=KEY):
+    """Asks for a path by a key, and compares what is answered, but for moments."""
+    host = ("Host", it.model.host)
+    wanted, _ = it.model.answer(it.package, 0, "GET", f"/{key}{path}", [host], b"")
+    told = it.ask(f"GET /{key}{path} HTTP/1.1\r\nHost: {host[1]}\r\n\r\n".encode())
+    expect(untimed(told.decode()), untimed(wanted.decode()), f"the answer to {path} by {key}")
+    return status_of(told)
+
+
+def check_a_key_is_taken_whole():
+    """A key of 64 bytes stands whole in the address, and no part of it lets in."""
+    key = KEY * 4
+    with desk(key=key, table=None) as it:
+        expect(it.address, f"desk http://127.0.0.1:{it.port}/{key}/\n", "the address")
+        parts = (key[:16], key[:63], key[:-1] + "0", key + "0")
+        expect([as_the_model(it, "/contents", part) for part in parts], [404] * 4, "the answers to parts of the key")
+        expect(as_the_model(it, "/contents", key), 200, "the answer to the key")
+        return 6
+
+
+def check_the_pages_table():
+    """Items of the table that the words name for pages run their scripts; all others are boxed."""
+    body = b"".join(b"table,%s,media,%s\nmedia,%s,1,text/html,3c\n" % (it, it, it) for it in (b"photos", PAGE.encode()))
+    for table in (PAGE, "photos", None):
+        with desk(table=table) as it:
+            it.post(body)
+            expect([as_the_model(it, f"/media/{name}/1") for name in ("photos", PAGE)], [200, 200], "the statuses")
+            it.end()
+    return 6
+
+
+def check_the_contents_of_many_tables():
+    """What stands is told of 300 tables as of one."""
+    with desk() as it:
+        it.post(b"".join(b"table,t%d,attributes,Table %d\n" % (number, number) for number in range(300)))
+        expect(as_the_model(it, "/contents"), 200, "the status")
+        it.end()
 
 
 def check_keys_by_chance():
@@ -460,7 +506,7 @@ def expect_wait(it, seconds):
     began = time.monotonic()
     expect(status_of(it.ask(it.head("GET", "/contents"))), 200, "the next request")
     waited = time.monotonic() - began
-    assert seconds - 0.5 < waited < seconds + 5, f"the next waited {waited:.1f} s"
+    assert seconds - 0.5 < waited < seconds + 15, f"the next waited {waited:.1f} s"  # less than the twenty are more
 
 
 def check_patience():
@@ -471,6 +517,21 @@ def check_patience():
                 slow.sendall(sent)
                 expect_wait(it, seconds)
             expect(it.line(), "page fault 96\n", "what is printed")
+        it.end()
+
+
+def check_a_body_that_does_not_come():
+    """A list whose end isn't there behind twenty seconds is not answered as a cut one: it is told as 96, and not run."""
+    body = b"row,spots,10,Cut,,0\nrow,spots,11,Cut,,0\n"
+    with desk() as it:
+        it.post(OPENING)
+        before = it.rows()
+        with it.connect() as slow:
+            slow.sendall(it.head("POST", "/records", length=len(body)) + body[:25])
+            expect_wait(it, WHOLE_REQUEST)
+            expect(everything(slow), b"", "what is answered")
+        expect(it.line(), "page fault 96\n", "what is printed")
+        expect(it.rows(), before, "the rows")
         it.end()
 
 

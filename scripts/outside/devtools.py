@@ -1,6 +1,6 @@
 """Drives headless Chromium by its DevTools protocol, over a pipe (--remote-debugging-pipe), by Python's standard library alone.
 
-A Browser opens Pages. A Page keeps what it asked for over the network, and what its console and its log said.
+What it can stands in browsers.py.
 """
 
 import base64
@@ -11,21 +11,16 @@ import select
 import subprocess
 import time
 
-ANSWER_SECONDS = 60
-# How long a page may take on a busy machine.
-WAIT_SECONDS = 60
+from browser_page import ANSWER_SECONDS, Away, BrowserPage
+
 # What is answered while one page goes and another comes.
 AWAY = ("Inspected target navigated or closed", "Execution context was destroyed.", "Cannot find context with specified id",
         "Cannot find default execution context")
 OPTIONS = ["--headless=new", "--no-sandbox", "--disable-gpu", "--hide-scrollbars", "--force-device-scale-factor=1", "--no-first-run",
            "--disable-background-networking", "--disable-component-update", "--disable-sync", "--mute-audio", "--remote-debugging-pipe"]
-KEYS = {"Tab": 9, "Enter": 13, "Delete": 46, "ArrowLeft": 37, "ArrowUp": 38, "ArrowRight": 39, "ArrowDown": 40, "+": 187, "-": 189}
+KEYS = {"Backspace": 8, "Tab": 9, "Enter": 13, "Escape": 27, "Delete": 46, "ArrowLeft": 37, "ArrowUp": 38, "ArrowRight": 39, "ArrowDown": 40, "+": 187, "-": 189}
 TEXTS = {"Enter": "\r", "+": "+", "-": "-"}
 CODES = {"+": "Equal", "-": "Minus"}
-
-
-class Away(Exception):
-    """The page that was asked has gone, and another comes."""
 
 
 class Browser:
@@ -40,6 +35,7 @@ class Browser:
                                         stderr=subprocess.DEVNULL)
         os.close(to_browser)
         os.close(from_browser)
+        self.pipes = [self.to_browser, self.from_browser]
         self.read = b""
         self.last = 0
         self.pages = {}
@@ -48,15 +44,12 @@ class Browser:
         return self
 
     def __exit__(self, *_):
-        with contextlib.suppress(OSError, AssertionError):
-            self.ask("Browser.close")
-        try:
-            self.process.wait(20)
-        except subprocess.TimeoutExpired:
-            self.process.kill()
-            self.process.wait()
-        os.close(self.to_browser)
-        os.close(self.from_browser)
+        if self.process.poll() is None:
+            with contextlib.suppress(OSError, AssertionError):
+                self.ask("Browser.close")
+            with contextlib.suppress(subprocess.TimeoutExpired):
+                self.process.wait(20)
+        self.kill()
 
     def message(self, deadline):
         """The next message, None where none comes before the deadline."""
@@ -86,19 +79,29 @@ class Browser:
                 return answer["result"]
             self.tell(answer)
 
+    def post(self, method, session, **parameters):
+        """Sends a command whose answer nobody waits for."""
+        self.last += 1
+        asked = {"id": self.last, "method": method, "params": parameters, "sessionId": session}
+        os.write(self.to_browser, json.dumps(asked).encode() + b"\0")
+
     def tell(self, event):
-        if event.get("sessionId") in self.pages:
+        if "method" in event and event.get("sessionId") in self.pages:
             self.pages[event["sessionId"]].happened(event["method"], event["params"])
 
     def kill(self):
-        """Ends the browser as a loss of power does."""
+        """Ends the browser as a loss of power does, where it runs still."""
         self.process.kill()
         self.process.wait()
+        for pipe in self.pipes:
+            os.close(pipe)
+        self.pipes = []
 
-    def open(self, address, width=1280, height=800, scale=1, touch=False, kept=False):
+    def open(self, address, width=1280, height=800, scale=1, touch=False, kept=False, before=None):
         """Opens an address in a page of its own, which knows nothing of earlier ones: a browser that does opens connections ahead.
 
-        With `kept` the page is of the profile, so that what it keeps is there when the browser is started again.
+        With `kept` the page is of the profile, so that what it keeps is there when the browser is started again. `before` is a script that
+        runs before those of each page that comes there.
         """
         context = None if kept else self.ask("Target.createBrowserContext", disposeOnDetach=True)["browserContextId"]
         of = {} if kept else {"browserContextId": context}
@@ -110,20 +113,20 @@ class Browser:
         page.ask("Emulation.setDeviceMetricsOverride", width=width, height=height, deviceScaleFactor=scale, mobile=touch)
         if touch:
             page.ask("Emulation.setTouchEmulationEnabled", enabled=True, maxTouchPoints=5)
-        page.ask("Page.navigate", url=address)
+        if before:
+            page.ask("Page.addScriptToEvaluateOnNewDocument", source=before)
+        page.go(address)
         return page
 
 
-class Page:
-    """A page with what it asked for and said."""
+class Page(BrowserPage):
+    """A page of Chromium."""
 
     def __init__(self, browser, session, context, target):
-        self.browser = browser
+        super().__init__(browser)
         self.session = session
         self.context = context
         self.target = target
-        self.asked = []
-        self.said = []
 
     def ask(self, method, **parameters):
         return self.browser.ask(method, self.session, **parameters)
@@ -136,9 +139,22 @@ class Page:
         elif method == "Runtime.exceptionThrown":
             details = what["exceptionDetails"]
             self.said.append(("exception", details.get("exception", {}).get("description", details["text"]), details.get("url", "")))
+        elif method == "Page.javascriptDialogOpening":
+            # The page asks whether it may be left.
+            self.browser.post("Page.handleJavaScriptDialog", self.session, accept=True)
         elif method == "Log.entryAdded":
             entry = what["entry"]
             self.said.append((entry["source"], entry["text"], entry.get("url", "")))
+
+    def go(self, address):
+        """Goes to an address, and doesn't wait for what comes."""
+        self.ask("Page.navigate", url=address)
+
+    def reload(self):
+        self.ask("Page.reload")
+
+    def to_front(self):
+        self.ask("Page.bringToFront")
 
     def close(self):
         if self.context:
@@ -158,22 +174,31 @@ class Page:
         assert "exceptionDetails" not in answer, f"{expression}: {answer.get('exceptionDetails')}"
         return answer["result"].get("value")
 
-    def is_so(self, expression):
-        """Whether an expression is true; not while another page comes."""
-        try:
-            return self.value(expression)
-        except Away:
-            return False
+    def screenshot(self, clip=None):
+        """The page as PNG, or a part of it: x, y, width and height."""
+        box = {} if clip is None else {"clip": dict(zip(("x", "y", "width", "height", "scale"), (*clip, 1)))}
+        return base64.b64decode(self.ask("Page.captureScreenshot", format="png", **box)["data"])
 
-    def wait(self, expression, seconds=WAIT_SECONDS):
-        """Waits until an expression is true."""
-        deadline = time.monotonic() + seconds
-        while not self.is_so(expression):
-            assert time.monotonic() < deadline, f"not within {seconds} s: {expression}"
-            time.sleep(0.05)
+    def keep_files_in(self, folder):
+        """Has files that the page gives to the user kept in a folder."""
+        of = {"browserContextId": self.context} if self.context else {}
+        self.browser.ask("Browser.setDownloadBehavior", behavior="allow", downloadPath=str(folder), **of)
 
-    def screenshot(self):
-        return base64.b64decode(self.ask("Page.captureScreenshot", format="png")["data"])
+    def device_is_at(self, longitude, latitude, accuracy):
+        """Has the device tell a place to the page, which may ask for it."""
+        of = {"browserContextId": self.context} if self.context else {}
+        self.browser.ask("Browser.grantPermissions", permissions=["geolocation"], origin=self.value("location.origin"), **of)
+        self.ask("Emulation.setGeolocationOverride", longitude=longitude, latitude=latitude, accuracy=accuracy)
+
+    def fill_storage(self, is_full):
+        """Has the storage of the page's address take next to nothing, or as much as ever."""
+        size = {"quotaSize": 1000} if is_full else {}
+        self.ask("Storage.overrideQuotaForOrigin", origin=self.value("location.origin"), **size)
+
+    def frames(self):
+        """The addresses of the page's frames; of one that wasn't let in that which it was to show."""
+        children = self.ask("Page.getFrameTree")["frameTree"].get("childFrames", [])
+        return [it["frame"].get("unreachableUrl", it["frame"]["url"]) for it in children]
 
     def move(self, x, y):
         self.ask("Input.dispatchMouseEvent", type="mouseMoved", x=x, y=y)

@@ -41,7 +41,7 @@ try() {
 }
 
 whole_day() {
-    timeout 400 "$top/examples/field_day/run.sh" "$folder/day" >"$folder/said.txt"
+    timeout 900 "$top/examples/field_day/run.sh" "$folder/day" >"$folder/said.txt"
 }
 
 # Where the browser shows a crew's colour, in pixels: none before, some after.

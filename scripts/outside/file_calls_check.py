@@ -37,8 +37,13 @@ PLACES = {
         "mm_program/src/desks.rt": {"TcpListener::bind"},
     },
     r"\bTcpStream::\w+|\bUdpSocket\b|\bUnixListener\b|\bprocess::Command\b": {},
+    # names of the module, or of the functions in it, that the pattern for `fs` would not see
+    r"\bfs::\s*(?:\{|\*)": {},
+    r"\brename\(|\bhard_link\b|\bcreate_dir\w*|\bcreate_new\b|\bFile::create\b": {},
     r"\bset_len\b|\bremove_file\b|\bremove_dir\w*|\bOpenOptions\b": {},
 }
+# What the system's library is called by another name: then no word above would tell a call.
+ALIAS = re.compile(r"\buse\s+(?:::)?(?:std|sqlite|sqlite_std_file)\b[^;]*?\bas\s+\w+|\bextern\s+crate\b|\buse\s+std::\*")
 # Crates that are no part of the program, and the one crate that may stand on what opens files.
 TESTS = re.compile(r"mm_(test_\w+|faults)$")
 OPENER = "mm_files"
@@ -57,7 +62,10 @@ def calls_of(crates):
         name = path.relative_to(crates).as_posix()
         if TESTS.match(name.partition("/")[0]):
             continue
-        for number, line in enumerate(code_of(path.read_text(encoding="utf-8")).split("\n"), 1):
+        code = code_of(path.read_text(encoding="utf-8"))
+        for found in ALIAS.finditer(code):
+            calls.append((name, code.count("\n", 0, found.start()) + 1, " ".join(found[0].split()), False))
+        for number, line in enumerate(code.split("\n"), 1):
             for pattern, places in PLACES.items():
                 words = (found[0] for found in re.finditer(pattern, line))
                 calls += [(name, number, word, word in places.get(name, ())) for word in words]

@@ -255,11 +255,11 @@ def entry_of(fields):
     return (part, fields[2].decode(), *map(int, fields[3:3 + size]))
 
 
-def expect_between(before, after, other, folder, onto, seen=None, renumber=False):
+def expect_between(before, after, other, folder, onto, seen=None, renumber=False, anyway=False):
     """What the tool writes makes of a copy of OTHER what the rule gives, without a refusal; returns the conflicts, and what was told."""
     out, states = folder / "out", [entries(it.package) for it in (after, before, other)]
-    words = [*(["--onto", other.file] if onto else []), *(["--renumber"] if renumber else [])]
-    status = 1 if by_the_rule(states[1], states[0], states[2])[1] else 0
+    words = [*(["--onto", other.file] if onto else []), *(["--renumber"] if renumber else []), *(["--anyway"] if anyway else [])]
+    status = 1 if by_the_rule(states[1], states[0], states[2])[1] or states[0] == states[1] else 0
     printed, told = run(TOOL, before.file, after.file, "home", out, *words, status=status if not renumber else None)
     if renumber:
         states[0] = renumbered(*states, out)
@@ -322,7 +322,7 @@ def one_round(folder, empty, source, number, seen):
     expect_between(before, after, other, folder, True, seen)
     expect_between(before, after, other, folder, True, seen, renumber=True)
     if number % 4 == 0:
-        expect_between(other, after, other, folder, False, seen)
+        expect_between(other, after, other, folder, False, seen, anyway=True)
 
 
 BY_HAND = """srs,7,grid,EPSG,7,grid,
@@ -557,12 +557,26 @@ def check_two_crews(folder, _):
     expect(sorted(it.read_bytes() for it in (folder / "kept" / "conflicts").iterdir() if it.name != "kit.csv"), [b"\xff\xd8\xff"], "bytes")
 
 
+def check_one_crew_then_the_next(folder, _):
+    """Behind the commands it is said that they come before the next crew's; where nothing is to be taken in, or by a pair, it isn't."""
+    before, after, other = two_crews(folder)
+    said = "next: run these before the next crew's work is reckoned: they suit OTHER as it is now, and no later one"
+    words = TOOL, before.file, after.file, "home", folder / "both", "--onto", other.file
+    both = run("bash", "-c", '"$@" 2>&1 || [ $? = 1 ]', "bash", *words)[0].splitlines()
+    expect(both[-2:], ["echo publish,home | mmpkg run FILE", said], "the last lines")
+    for name, words, status in (("pair", (before.file, after.file), 0), ("nothing", (before.file, before.file), 1)):
+        onto = ("--onto", other.file) if name == "nothing" else ()
+        _, told = run(TOOL, *words, "home", folder / name, *onto, status=status)
+        assert said not in told, told
+
+
 def check_new_numbers(folder, _):
     """With --renumber what the second crew made comes in beside the first one's, with its mapping row, and old and new numbers are told."""
     before, after, other = two_crews(folder)
     conflicts, told = expect_between(before, after, other, folder, True, renumber=True)
     expect(conflicts, [["row", "spots 3"]], "conflicts")
-    for line in ("renumbered: media photos 2 is 3", "renumbered: row spots 4 is 6", "there already: nothing"):
+    for line in ("renumbered: media photos 2 is 3", "renumbered: row spots 4 is 6", "there already: nothing",
+                 "next: give the crew a new copy: its own has the old numbers"):
         assert line in told.splitlines(), f"{line!r} isn't told: {told}"
     run(TOOL, before.file, after.file, "home", folder / "kept", "--onto", other.file, "--renumber", status=1)
     expect((folder / "kept" / "renumbered.csv").read_text(), "what,table,old,new\nmedia,photos,2,3\nrow,spots,4,6\n", "renumbered.csv")
@@ -581,17 +595,77 @@ def check_numbers_of_the_page(folder, _):
     assert "renumbered" not in told, told
 
 
+def expect_refused(folder, words, *lines):
+    """The tool refuses with 2 and these lines, and makes nothing; with --anyway it reckons. Returns what it tells then."""
+    told = run(TOOL, *words[:2], "home", folder / "refused", *words[2:], status=2)
+    expect(told, ("", "".join(f"{line}\n" for line in (*lines, "nothing was made; --anyway reckons all the same"))), "what is told")
+    expect((folder / "refused").exists(), False, "whether something was made")
+    shutil.rmtree(folder / "anyway", ignore_errors=True)
+    return run(TOOL, *words[:2], "home", folder / "anyway", *words[2:], "--anyway", status=None)[1]
+
+
 def check_wrong_order(folder, _):
-    """Packages in the wrong order are noticed by the moments of their last change."""
+    """Packages in the wrong order are refused by the moments of their last change, where their published editions are the same."""
     before = by_hand(new_package(folder / "before.mmpkg"), CREWS)
     after = before.copy(folder / "after.mmpkg")
     run(PROGRAM, "run", after.file, "--at", 86400000, given=b"row,spots,4,Oak,,1\n")
-    note = "it was last changed before BEFORE was: are the packages in the wrong order?"
-    assert note not in run(TOOL, before.file, after.file, "home", folder / "right")[1], "a note in the right order"
-    told = run(TOOL, after.file, before.file, "home", folder / "wrong")[1]
-    assert f"note: {before.file}: as AFTER {note}\n" in told, told
-    told = run(TOOL, after.file, after.file, "home", folder / "older", "--onto", before.file)[1]
-    assert f"note: {before.file}: as OTHER {note}\n" in told, told
+    why = "it was last changed before BEFORE was: are the packages in the wrong order?"
+    run(TOOL, before.file, after.file, "home", folder / "right")
+    told = expect_refused(folder, (after.file, before.file), f"{before.file}: as AFTER {why}")
+    assert "written: 1 edition, 1 row-drop\n" in told, told
+    expect_refused(folder, (after.file, after.file, "--onto", before.file), f"{before.file}: as OTHER {why}")
+    slow = by_hand(before.copy(folder / "slow.mmpkg"), "edition,day\npublish,day\n")
+    run(PROGRAM, "run", slow.file, "--at", 0, given=b"row,spots,4,Oak,,1\n")
+    run(TOOL, before.file, slow.file, "home", folder / "clock")
+
+
+def check_editions_that_are_lacking(folder, _):
+    """A copy of another crew as BEFORE, an older one as AFTER, and a package that handed none of them out are refused by their editions."""
+    office = by_hand(new_package(folder / "office.mmpkg"), CREWS + "edition,first\npublish,first\n")
+    copies = {}
+    for mark in ("out_a_1_zzzzzz", "out_b_2_zzzzzz"):
+        by_hand(office, f"edition,{mark}\npublish,{mark}\n")
+        copies[mark[4]] = office.copy(folder / f"{mark}.mmpkg")
+    crews = {name: by_hand(copy.copy(folder / f"crew_{name}.mmpkg"), f"row,spots,4,Of {name},,1\n") for name, copy in copies.items()}
+    lacks = "as AFTER it lacks published editions of BEFORE, which never go away: out_b_2_zzzzzz"
+    words = copies["b"].file, crews["a"].file, "--onto", office.file
+    told = expect_refused(folder, words, f"{crews['a'].file}: {lacks}")
+    assert "written: 1 edition, 1 row\n" in told, told
+    for name in "ab":
+        run(TOOL, copies[name].file, crews[name].file, "home", folder / name, "--onto", office.file)
+    other = by_hand(new_package(folder / "other.mmpkg"), CREWS + "edition,last\npublish,last\n")
+    expect_refused(folder, (copies["a"].file, crews["a"].file, "--onto", other.file),
+                   f"{other.file}: as OTHER it has none of BEFORE's published editions: first, out_a_1_zzzzzz")
+    by_hand(other, "edition,first\npublish,first\n")
+    expect_refused(folder, (copies["a"].file, crews["a"].file, "--onto", other.file),
+                   f"{other.file}: as OTHER it didn't hand BEFORE out, which is marked out_a_1_zzzzzz")
+
+
+def check_words_of_pages(folder, _):
+    """Another project is refused by the word of its page; what is no page's item 4 has none."""
+    page = "table,viewer,media,Map\nmedia,viewer,4,application/json,{}\n"
+    words = {name: page.format(f'{{"package":"{name * 16}"}}'.encode().hex()) for name in "ab"}
+    one = by_hand(new_package(folder / "one.mmpkg"), CREWS + words["a"])
+    two = by_hand(new_package(folder / "two.mmpkg"), CREWS + words["b"])
+    why = "is of another project than BEFORE, by the words of their pages"
+    expect_refused(folder, (one.file, two.file), f"{two.file}: as AFTER it {why}")
+    expect_refused(folder, (one.file, one.file, "--onto", two.file), f"{two.file}: as OTHER it {why}")
+    for number, text in enumerate(('["package"]', '{"package":4}', "{", '{"package":"b"}')):
+        none = by_hand(new_package(folder / f"{number}.mmpkg"), CREWS + page.format(text.encode().hex()))
+        run(TOOL, one.file, none.file, "home", folder / f"none_{number}")
+
+
+def check_rows_that_never_came_home(folder, _):
+    """Rows and media that BEFORE and AFTER have alike, and OTHER hasn't, are named; the line that matters stands before all notes."""
+    office = by_hand(new_package(folder / "office.mmpkg"), CREWS)
+    before = by_hand(office.copy(folder / "before.mmpkg"), "row,spots,40,Gate,,1\nrow,spots,41,Oak,,1\nmedia,photos,7,a/b,00\n")
+    after = by_hand(before.copy(folder / "after.mmpkg"), "row,spots,5,Fence,,1\n")
+    run(PROGRAM, "run", after.file, "--at", 86400000, given=b"row,spots,3,Well,deep,1\n")
+    told = run(TOOL, before.file, after.file, "home", folder / "out", "--onto", office.file)[1].splitlines()
+    missing = "BEFORE and AFTER have it, OTHER doesn't: it was removed there, or never came home"
+    expect(told[:5], ["written: 1 edition, 2 row", "there already: nothing", "conflicts: nothing",
+                      f"note: media photos 7, row spots 40, row spots 41: {missing}",
+                      "note: last_change of spots: it is another in AFTER, and doesn't cross"], "what is told")
 
 
 def check_system_that_changed(folder, _):
@@ -616,17 +690,17 @@ def check_identifiers_that_swap(folder, _):
 
 
 def check_one_that_is_as_the_other(folder, _):
-    """Between equal packages nothing is written but an empty list; other editions and moments are named, and change no status."""
+    """Between equal packages nothing is written but an empty list, which is told with status 1; other editions and moments are named."""
     before = by_hand(new_package(folder / "before.mmpkg"), "table,a,attributes,One\nrow,a,1,x,,1\n")
     after = by_hand(before.copy(folder / "after.mmpkg"), "edition,draft\nstage,draft,1,row,a,2,,,0\n")
     run(PROGRAM, "run", after.file, "--at", 86400000, given=b"row,a,1,x,,1\n")
-    printed, told = run(TOOL, before.file, after.file, "home", folder / "out")
+    printed, told = run(TOOL, before.file, after.file, "home", folder / "out", status=1)
     expect(printed, "", "commands")
     expect([file.name for file in (folder / "out").iterdir()], ["before.csv"], "files")
     expect((folder / "out" / "before.csv").read_bytes(), b"", "before.csv")
-    expect(told.splitlines(), ["note: edition draft: none in BEFORE, open with pieces: 1 in AFTER; editions don't cross",
-                               "note: last_change of a: 1970-01-01T00:00:00.001Z in BEFORE, 1970-01-02T00:00:00.000Z in AFTER",
-                               "written: nothing"], "what is told")
+    expect(told.splitlines(), ["written: nothing", f"{after.file}: nothing was changed: was its journal copied along?",
+                               "note: edition draft: none in BEFORE, open with pieces: 1 in AFTER; editions don't cross",
+                               "note: last_change of a: it is another in AFTER, and doesn't cross"], "what is told")
 
 
 def with_rows(kept, numbers, *values):

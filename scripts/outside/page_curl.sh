@@ -47,7 +47,7 @@ END
 count=$(($(cases | wc -l) + 1))
 "$program" serve "$folder/a.mmpkg" --port "$port" --count "$count" >"$folder/printed" &
 server=$!
-for _ in $(seq 100); do
+for _ in $(seq 600); do
     grep -q serving "$folder/printed" && break
     sleep 0.1
 done

@@ -26,7 +26,7 @@ from package_views import query_of, table_rows  # noqa: E402
 from random_records import OPENING, Author  # noqa: E402
 
 # How many records a list has, how long the machine may boot, and at most how long behind the first answer the power is cut, in seconds.
-RECORDS, BOOT, LONGEST_CUT = 6000, 180, 7.0
+RECORDS, BOOT, LONGEST_CUT = 6000, 600, 7.0
 MOMENT = 951868800000
 DISK_BYTES = 128 << 20
 FILE = "p.mmpkg"

@@ -28,6 +28,7 @@ import sys
 import tempfile
 import time
 
+from checks import held_port
 from make_profile_1 import put_back
 
 TOP = pathlib.Path(__file__).resolve().parent.parent.parent
@@ -161,12 +162,6 @@ def build_refuser(folder):
     return library
 
 
-def free_port():
-    with socket.socket() as it:
-        it.bind(("127.0.0.1", 0))
-        return it.getsockname()[1]
-
-
 def rows_in(file):
     """Returns all rows of all tables of a package, and nothing of a file that has no table. A desk's moments are the clock's: each but the
     first is a later one."""
@@ -205,7 +200,8 @@ class Room:
 
     def __init__(self, program, library, folder, case):
         self.program, self.library, self.folder, self.case = program, library, folder, case
-        self.file, self.port = folder / "a.mmpkg", free_port()
+        self.file, self.held = folder / "a.mmpkg", held_port()
+        self.port = self.held.getsockname()[1]
         (folder / "kit").mkdir()
         for name, it in KIT.items():
             (folder / "kit" / name).write_bytes(it)

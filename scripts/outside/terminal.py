@@ -11,7 +11,7 @@ import sys
 import tempfile
 import time
 
-WAIT = 10
+WAIT = 60
 END_KEY = b"\x04"
 # The exit status where a record was refused, as the second one is.
 REFUSED = 1

@@ -1,7 +1,7 @@
 #!/usr/bin/env python3
-"""Looks at the viewer that travels in a package as a surveyor does, in headless Chromium. Called by scripts/outside/viewer.sh.
+"""Looks at the viewer that travels in a package as a surveyor does, in a browser without a window. Called by scripts/outside/viewer.sh.
 
-    MMPKG=out/mmpkg scripts/outside/viewer_check.py [--browser chromium] [--keep FOLDER] [WORD ..]
+    MMPKG=out/mmpkg scripts/outside/viewer_check.py [--browser chromium | firefox-esr] [--keep FOLDER] [WORD ..]
 
 A package of four pyramids and photos gets its viewer by the tool's own commands, and 'mmpkg serve' serves it. Each place of the map has to
 show the colour that this script gave the tile there; the place is what the page tells of the pointer, and what the tile is follows from
@@ -10,7 +10,6 @@ the package's layout alone. --keep keeps the screenshots in a folder; WORD picks
 """
 
 import argparse
-import base64
 import contextlib
 import dataclasses
 import json
@@ -26,7 +25,7 @@ import tempfile
 import time
 import traceback
 
-import devtools
+import browsers
 import make_profile_1
 import page_map
 from checks import PROGRAM, TOP, content_of, end, expect, mmpkg, run, run_checks
@@ -223,8 +222,8 @@ def check_no_hair_lines(scene):
             zoom_to(page, zoom, 179.2, -76.8)
             page.value("byId('map').classList.remove('centre')")
             x, y = middle(page, "map")
-            data = page.ask("Page.captureScreenshot", format="png", clip={"x": x - 80, "y": y - 40, "width": 160, "height": 80, "scale": 1})["data"]
-            off = max(abs(a - b) for row in page_map.read_png(base64.b64decode(data)) for pixel in row for a, b in zip(pixel, PLAIN))
+            data = page.screenshot((x - 80, y - 40, 160, 80))
+            off = max(abs(a - b) for row in page_map.read_png(data) for pixel in row for a, b in zip(pixel, PLAIN))
             assert off <= (0 if scale == int(scale) else 6), f"a pixel is off by {off} at zoom {zoom} on a screen of {scale}"
 
 
@@ -405,6 +404,7 @@ def check_tables(scene):
 def check_nothing_elsewhere(scene):
     """The page's policy keeps it from other addresses, and from running what isn't its own."""
     page = scene.open()
+    page.value("addEventListener('securitypolicyviolation', it => (window.blocked ??= []).push(it.effectiveDirective)); 0")
     with socket.create_server(("127.0.0.1", 0)) as other:
         other.settimeout(2)
         there = f"http://127.0.0.1:{other.getsockname()[1]}"
@@ -416,8 +416,8 @@ def check_nothing_elsewhere(scene):
         with contextlib.suppress(TimeoutError):
             other.accept()
             raise AssertionError("another address was asked")
-    blocked = [it for it in page.said if "Content Security Policy" in it[1]]
-    assert len(blocked) >= 3, f"the console tells {page.said}"
+    page.wait("window.blocked?.length >= 3")
+    expect(sorted(page.value("blocked")), ["connect-src", "img-src", "script-src-elem"], "what the policy kept back")
 
 
 def copy_of(scene, name):
@@ -559,19 +559,19 @@ def check_tool_makes_a_kit(scene):
     expect([tuple(it.values()) for it in known["relations"]], [("spots_owners", "spots", "owners", "simple_attributes"),
            ("spots_papers", "spots", "papers", "media"), ("spots_photos", "spots", "photos", "media")], "relations of item 4")
     assert re.fullmatch("[0-9a-f]{16}", known["package"]), known["package"]
-    expect(max(len(it.read_text().splitlines()) for it in (TOP / "tools" / "page").iterdir()) <= 400, True, "each file of the page has at most 400 lines")
+    expect(max(len(it.read_text().splitlines()) for it in (TOP / "tools" / "page").iterdir()) <= 250, True, "each file of the page has at most 250 lines")
     expect({it.name for it in scene.folder.iterdir() if it.name.startswith(".viewer")}, set(), "what is left behind")
 
 
 def check_tool_with_a_standing_table(scene):
-    """A media table of the name is taken, where its items 1 to 4 are a viewer's or aren't there; the next edition's name is found."""
+    """A media table of the name is taken, where its items are a viewer's; the next edition's name is found."""
     file = scene.folder / "named.mmpkg"
-    new_package(file, "table,maps,media,Map viewer\nmedia,maps,9,image/png,89504e47\nedition,maps\npublish,maps\nedition,maps_2\n")
+    new_package(file, "table,maps,media,Map viewer\nmedia,maps,1,text/html,3c\nedition,maps\npublish,maps\nedition,maps_2\n")
     commands, told = take_in(file, scene.folder / "maps out", "--table", "maps")
     expect(told, f"note: edition maps_2: is open; 'discard,maps_2' takes it back where it was for an earlier viewer\n"
                  f"note: {file}: has no matrix yet: make the viewer anew when it has\n", "what is told")
     expect((scene.folder / "maps out" / "layout.csv").read_text(), "edition,maps_3\n", "layout.csv")
-    assert "kit FILE maps_3" in commands and mmpkg("list", file).splitlines()[0].split()[:3] == ["maps", "media", "5"], commands
+    assert "kit FILE maps_3" in commands and mmpkg("list", file).splitlines()[0].split()[:3] == ["maps", "media", "4"], commands
     take_in(file, scene.folder / "other", "--edition", "spring")
     expect((scene.folder / "other" / "layout.csv").read_text(), 'table,viewer,media,Map viewer 2\nedition,spring\n', "layout.csv")
     with served(file) as address:
@@ -591,6 +591,10 @@ REFUSED = [
     (["{}/good.mmpkg", "{}/notes.mmpkg/out"], "{}/notes.mmpkg: is no folder", 2),
     (["{}/good.mmpkg", "{}/out", "--table", "spots"], "spots: is a table of kind attributes; --table names another table", 2),
     (["{}/good.mmpkg", "{}/out", "--table", "photos"], "photos: its item 1 is image/png and no viewer's; --table names another table", 2),
+    (["{}/foreign.mmpkg", "{}/out"], "viewer: its item 9 is text/html and no viewer's; --table names another table", 2),
+    (["{}/foreign.mmpkg", "{}/out", "--table", "run"],
+     "run: its item 5 is no WMTS description of these tools; --table names another table", 2),
+    (["{}/related.mmpkg", "{}/out"], "viewer: the relation shown relates viewer to spots; --table names another table", 2),
     (["{}/good.mmpkg", "{}/out", "--table", "views"], "views: is the name of a mapping; --table names another table", 2),
     (["{}/good.mmpkg", "{}/out", "--table", "mm_map"], "'mm_map' is no name of a package", 2),
     (["{}/good.mmpkg", "{}/out", "--edition", "old"], "old: this edition is published in the package; --edition names another", 2),
@@ -602,6 +606,11 @@ def make_refused(folder):
     folder.mkdir()
     new_package(folder / "good.mmpkg", "table,spots,attributes,Spots\ntable,photos,media,Photos\nmedia,photos,1,image/png,89504e47\n"
                                       "relation,views,spots,photos,media\nedition,old\npublish,old\n")
+    script = b"<x:script xmlns:x='http://www.w3.org/1999/xhtml'>stop()</x:script>".hex()
+    new_package(folder / "foreign.mmpkg", "table,viewer,media,V\nmedia,viewer,9,text/html,3c\ntable,run,media,R\n"
+                                         f"media,run,5,text/xml,{script}\n")  # fmt: skip
+    new_package(folder / "related.mmpkg", "table,spots,attributes,Spots\ntable,viewer,media,V\n"
+                                          "relation,shown,spots,viewer,media\n")  # fmt: skip
     shutil.copy(folder / "good.mmpkg", folder / "broken.mmpkg")
     with contextlib.closing(sqlite3.connect(folder / "broken.mmpkg")) as opened:
         opened.execute("UPDATE gpkg_contents SET description = 'x'")
@@ -654,7 +663,7 @@ def main():
         given.keep.mkdir(parents=True, exist_ok=True)
     with tempfile.TemporaryDirectory() as name:
         folder = pathlib.Path(name)
-        with devtools.Browser(given.browser, folder / "profile") as browser:
+        with browsers.start(given.browser, folder / "profile") as browser:
             scene = Scene(folder, browser, given.keep)
             new_package(scene.file, content())
             take_in(scene.file, folder / "out")

@@ -2,14 +2,13 @@
 
 import contextlib
 import dataclasses
-import socket
 import struct
 import subprocess
 import sys
 import zlib
 
 import page_map
-from checks import PROGRAM, TOP, expect, mmpkg, run
+from checks import PROGRAM, TOP, expect, held_port, mmpkg, run
 
 TOOL = TOP / "tools" / "make_viewer.py"
 sys.path.insert(0, str(TOP / "tools"))
@@ -140,10 +139,8 @@ def take_in(file, out, *words):
 @contextlib.contextmanager
 def served(file, port=0):
     """Serves a package, answers the page's address, and expects in the end that the program told no fault."""
-    if not port:
-        with socket.socket() as it:
-            it.bind(("127.0.0.1", 0))
-            port = it.getsockname()[1]
+    held = None if port else held_port()
+    port = port or held.getsockname()[1]
     # The service ends by itself, should this script be killed.
     command = ["timeout", str(SEEN_SECONDS), PROGRAM, "serve", file, "--port", str(port), "--count", "100000"]
     serving = subprocess.Popen(command, stdout=subprocess.PIPE)

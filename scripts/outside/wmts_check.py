@@ -149,11 +149,12 @@ class Scene:
             )
         mmpkg("run", self.file, given=MORE.encode())
         commands, told = run(TOOLS / "make_viewer.py", self.file, self.folder / "viewer", "--wmts", self.port, status=1)
-        *commands, last = commands.splitlines(keepends=True)
-        expect(last, f"mmpkg serve FILE --port {self.port}\n", "the last command")
-        self.take_in("".join(commands))
+        assert "mmpkg serve" not in commands, "who pipes the commands into a shell would wait for ever"
+        *told, last = told.splitlines(keepends=True)
+        expect(last, f"next: mmpkg serve FILE --port {self.port} shows them to GDAL and QGIS\n", "what is told last")
+        self.take_in(commands)
         run(TOOLS / "export_standard.py", self.file, self.out)
-        return told
+        return "".join(told)
 
     def take_in(self, commands):
         """Runs commands on the package.

@@ -1,0 +1,37 @@
+"""Browsers without a window, which a check drives by mouse, keys and fingers: written once, it runs in each of them.
+
+    with browsers.start("firefox-esr", folder / "profile") as browser:
+        page = browser.open("http://127.0.0.1:8090/")
+        page.click(20, 30)
+        page.wait("document.title === 'pressed'")
+
+Chromium is driven by devtools.py, Firefox by bidi.py. What both have:
+
+- a browser: `open`, `kill`, `process`; it ends with the block that it is made in, and its profile stays;
+- a page: `value`, `is_so`, `wait`, `move`, `click`, `drag`, `wheel`, `press`, `type`, `touch`, `choose_files`,
+  `screenshot`, `go`, `reload`, `to_front`, `keep_files_in`, `device_is_at`, `fill_storage`, `frames`, `close`; and what
+  it `asked` for and `said`.
+"""
+
+import pathlib
+import shutil
+
+import bidi
+import devtools
+
+# The commands of Debian's browsers.
+COMMANDS = ("chromium", "firefox-esr")
+
+
+def is_firefox(command):
+    return "firefox" in pathlib.Path(command).name
+
+
+def start(command, profile):
+    """Starts a browser with a profile, which is made where there is none."""
+    return (bidi if is_firefox(command) else devtools).Browser(command, profile)
+
+
+def there():
+    """The commands of the browsers that this machine has."""
+    return [it for it in COMMANDS if shutil.which(it)]

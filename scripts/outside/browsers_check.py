@@ -18,7 +18,8 @@ import threading
 
 import browsers
 from checks import end, expect, mmpkg, run_checks
-from crew_page import Crew, Seat
+from crew_page import Crew, Gone, Seat
+from page_world import Tab
 from viewer_package import new_package, picture, record, take_in
 
 PAGE = """<!doctype html><meta charset='utf-8'><meta name='viewport' content='width=device-width'><title>tried</title>
@@ -40,7 +41,7 @@ setTimeout(() => { throw new Error('failed'); });
 
 class Site(http.server.BaseHTTPRequestHandler):
     def do_GET(self):
-        body = (PAGE if self.path == "/" else "").encode()
+        body = ("" if self.path == "/frame" else PAGE).encode()
         self.send_response(200)
         self.send_header("Content-Type", "text/html; charset=utf-8")
         self.send_header("Content-Length", str(len(body)))
@@ -161,6 +162,30 @@ def check_what_a_profile_keeps(scene):
         page.to_front()
         page.click(60, 25)
         expect(page.value("seen.includes('click button mouse')"), True, "a click in the page in front")
+
+
+def check_a_list_that_moves(scene):
+    """A button of the list that goes with its item isn't pressed, nor another in its place; of no item there is none."""
+    listed = """const list = document.createElement('ul');
+      list.id = 'outbox';
+      list.innerHTML = '<li>one <button>Send</button></li><li>two <button>Change</button></li>';
+      document.body.replaceChildren(Object.assign(document.createElement('h2'), { id: 'waits', innerText: 'Waits' }), list);
+      list.addEventListener('click', it => it.target.closest('li').remove()); 0"""
+    with scene.started() as browser:
+        tab = Tab(browser, scene.site)
+        tab.page.wait("document.readyState === 'complete' && typeof seen !== 'undefined'")
+        tab.page.value(f"document.querySelector('style').remove(); {listed}")
+        expect(tab.hold(1, "it.innerText === 'Change'"), ["two Change", "Change"], "what is held")
+        tab.page.value("document.getElementById('outbox').children[1].remove(); 0")
+        tab.press_held()
+        expect(tab.items(), ["one Send"], "the list behind a press of what has gone")
+        expect([tab.hold(1, "true"), tab.hold(0, "false")], [None, None], "what no item has")
+        expect(tab.hold(0, "true", 3), ["one Send", "Send"], "what is held")
+        tab.press_held()
+        expect(tab.items(), [], "the list behind a press")
+        with contextlib.suppress(Gone):
+            tab.press("(undefined)")
+            raise ValueError("what isn't there was pressed")
 
 
 def check_a_crew_s_page(scene):

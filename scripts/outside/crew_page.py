@@ -30,16 +30,23 @@ OPEN_TO = f"""it => {{
 REST_SECONDS = 2
 
 
+class Gone(AssertionError):
+    """What was to be pressed is not there, or not any more."""
+
+
 def press_at_rest(page, element):
     """Presses what an expression names, in its middle, once nothing moves it and nothing is over it."""
     deadline, before = time.monotonic() + REST_SECONDS, None
     while time.monotonic() < deadline:
-        where = page.value(f"({OPEN_TO})({element})")
-        if where and where == before:
+        where = page.value(f"(it => it ? ({OPEN_TO})(it) : 'gone')({element})")
+        if where == "gone" or (where and where == before):
             break
         before = where
         time.sleep(0.03)
-    page.click(*page.value(f"({MIDDLE})({element})"))
+    where = page.value(f"(it => it ? ({MIDDLE})(it) : null)({element})")
+    if where is None:
+        raise Gone(element)
+    page.click(*where)
 
 
 def free_port():

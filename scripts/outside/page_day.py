@@ -11,9 +11,9 @@ import time
 
 from browser_page import Away
 from checks import mmpkg
-from crew_page import STANDS
+from crew_page import STANDS, Gone
 from page_told import FIELDS, Act, Row, Told, tag_of
-from page_world import CLOCK, STONES, SYSTEM, Package, Port, Tab, by, row_record, stone
+from page_world import CLOCK, STONES, SYSTEM, Package, Port, Tab, by, is_open, row_record, stone
 from stranger import ANSWERS
 
 SETTLE_SECONDS = 40
@@ -68,9 +68,11 @@ class Day:
         return None
 
     def step(self, name, a, b):
-        """Does a step; where the browser ends in it, it ends there."""
+        """Does a step; it ends where the browser ends in it, or where the page has taken away what was to be pressed."""
         try:
             getattr(self, f"do_{name}")(a, b)
+        except Gone:
+            return
         except (AssertionError, OSError, Away) as error:
             if not self.world.has_ended():
                 raise Wrong(f"the step {name} {a} {b} can't be done: {type(error).__name__} {error}") from error
@@ -287,28 +289,23 @@ class Day:
     def do_decide(self, a, b):
         """Presses a button of what was refused or changed meanwhile, as the crew wishes."""
         tab = self.tab(a)
-        for at, text in enumerate(tab.listed() if tab else []):
-            item = f"{by('outbox')}.children[{at}]"
-            buttons = f"[...{item}.querySelectorAll('button')].filter(it => !/^(Change|Open)/.test(it.innerText))"
-            labels = tab.page.value(f"{buttons}.map(it => it.innerText)")
-            if labels and text:
-                label = labels[b % len(labels)]
+        for at in range(len(tab.items()) if tab else 0):
+            held = tab.hold(at, "!/^(Change|Open)/.test(it.innerText)", b)
+            if held and is_open(held[0]):
+                text, label = held
                 self.told.decided(text, self.package.rows()[0], OWN_WISH.match(label) is not None)
-                mine = f"[...({item}?.querySelectorAll('button') ?? [])].find(it => it.innerText.startsWith('{label}'))"
                 for _ in range(2):
-                    tab.press(f"({mine} ?? {by('waits')})")
+                    tab.press_held()
                 return
 
     def do_again(self, a, b):
         """A row that was refused, or changed meanwhile, is changed once more: its form has its photos, and one more."""
         tab = self.tab(a)
-        for at, text in enumerate(tab.listed() if tab else []):
-            button = (
-                f"[...{by('outbox')}.children[{at}].querySelectorAll('button')].find(it => it.innerText === 'Change')"
-            )
-            if not text or not tab.page.value(f"!!{button}"):
+        for at in range(len(tab.items()) if tab else 0):
+            text, _ = tab.hold(at, "it.innerText === 'Change'") or ("", "")
+            if not text or not is_open(text):
                 continue
-            tab.press(f"({button})")
+            tab.press_held()
             if not tab.within(tab.has_form) or tab.came_back():
                 return
             base = tab.fields()

@@ -198,6 +198,11 @@ class Port:
         return mmpkg("run", self.seat.file, "--at", 0, given=records.encode(), status=None)
 
 
+def is_open(item):
+    """Whether an item of the list is something that isn't in the package yet, and was saved."""
+    return JOINED not in item and LEFT not in item
+
+
 BY_NAME = "(it => document.getElementById(it))"
 
 
@@ -238,7 +243,7 @@ class Tab:
 
     def listed(self):
         """What isn't in the package yet, as the page lists it; what it has joined is listed there too, and stands."""
-        return ["" if JOINED in it or LEFT in it else it for it in self.items()]
+        return [it if is_open(it) else "" for it in self.items()]
 
     def left(self):
         """What a tab has left that was typed and not saved, as the page lists it."""
@@ -258,7 +263,22 @@ class Tab:
         )
 
     def press(self, element):
+        """Presses what an expression or an id names: Gone where that isn't there, since the page shows lists anew."""
         press_at_rest(self.page, element if "(" in element else by(element))
+
+    def hold(self, at, wanted, number=0):
+        """Holds one of the wanted buttons of an item of the list, and answers what both say, None where it has none.
+
+        All is asked in one moment: the list moves up where what waited is sent.
+        """
+        buttons = f"[...item?.querySelectorAll('button') ?? []].filter(it => {wanted})"
+        said = "held ? [item.innerText.replaceAll('\\n', ' / '), held.innerText] : null"
+        chosen = f"(all => window.held = all[{number} % all.length])({buttons})"
+        return self.page.value(f"(item => (held => {said})({chosen}))({by('outbox')}.children[{at}])")
+
+    def press_held(self):
+        """Presses the button that is held, where it is there still."""
+        self.press(f"(window.held?.isConnected ? window.held : {by('waits')})")
 
     def write(self, element, text):
         """Writes into a field, in place of what it has."""

@@ -16,7 +16,7 @@ from page_told import FIELDS, Act, Row, Told, tag_of
 from page_world import CLOCK, STONES, SYSTEM, Package, Port, Tab, by, is_open, row_record, stone
 from stranger import ANSWERS
 
-SETTLE_SECONDS = 40
+SETTLE_SECONDS = 90
 ENDED = "the day is ended"
 # What was typed is on the disk by then.
 KEPT_SECONDS = 1

@@ -1,20 +1,25 @@
 #!/usr/bin/env python3
-"""A picture of 100,000 x 100,000 pixels behind the work (tools/maps.py): how soon it is opened and drawn, and the memory.
+"""A picture of 100,000 x 100,000 pixels behind the work (tools/maps.py), or an MBTiles of some GB: how soon it is opened
+and drawn, and the memory.
 
-    bench/behind.py [--folder FOLDER] [--side 10]
+    bench/behind.py [--folder FOLDER] [--side 10] [--mbtiles GB]
 
 The picture is a VRT over SIDE x SIDE GeoTIFFs of 10,000 x 10,000 pixels with overviews, as gdalbuildvrt makes it, with
-the line <OverviewList> that has GDAL use those. The GeoTIFFs are one file under as many names. Times are by the clock,
-of a program of maps that is started anew; its files are in the system's memory then. Wants Debian's gdal-bin and
+the line <OverviewList> that has GDAL use those. The GeoTIFFs are one file under as many names. The MBTiles has JPEG
+tiles of the zooms 10 to 17 about 9 degrees east and 50.5 north, all of one picture. Times are by the clock, of a program
+of maps that is started anew; its files are in the system's memory then, as far as that goes. Wants Debian's gdal-bin and
 python3-gdal. The last line is the peak of its memory.
 """
 
 import argparse
 import concurrent.futures
+import contextlib
 import http.client
 import json
+import math
 import os
 import pathlib
+import sqlite3
 import statistics
 import subprocess
 import sys
@@ -40,9 +45,7 @@ def run(*words):
     subprocess.run([str(it) for it in words], check=True, stdout=subprocess.DEVNULL)
 
 
-def make_tile(folder):
-    """A GeoTIFF that looks like the ground from above, as far as a computer can tell."""
-    made = folder / "tile.tif"
+def make_noise(folder):
     noise = folder / "noise.raw"
     noise.write_bytes(os.urandom(3 * 1000 * 1000))
     (folder / "noise.vrt").write_text(
@@ -55,8 +58,14 @@ def make_tile(folder):
         )
         + "</VRTDataset>"
     )
+    return folder / "noise.vrt"
+
+
+def make_tile(folder):
+    """A GeoTIFF that looks like the ground from above, as far as a computer can tell."""
+    made = folder / "tile.tif"
     how = "-co TILED=YES -co COMPRESS=JPEG -co PHOTOMETRIC=YCBCR".split()
-    run("gdal_translate", "-q", "-outsize", TILE, TILE, "-r", "cubic", *how, folder / "noise.vrt", made)
+    run("gdal_translate", "-q", "-outsize", TILE, TILE, "-r", "cubic", *how, make_noise(folder), made)
     run("gdaladdo", "-q", "-r", "average", made, *OVERVIEWS)
     return made
 
@@ -78,6 +87,32 @@ def make_picture(folder, side):
         f'<OverviewList resampling="nearest">{listed}</OverviewList></VRTDataset>'
     )
     return folder / "picture.vrt"
+
+
+def place_of(zoom, east=9.0, north=50.5):
+    """Column and row, counted from the north, of the tile that a place lies in."""
+    sides, angle = 1 << zoom, math.radians(north)
+    return int((east / 360 + 0.5) * sides), int((1 - math.asinh(math.tan(angle)) / math.pi) / 2 * sides)
+
+
+def make_mbtiles(folder, size):
+    """An MBTiles of about so many bytes."""
+    made, tile = folder / "map.mbtiles", folder / "tile.jpg"
+    run("gdal_translate", "-q", "-of", "JPEG", "-outsize", 256, 256, make_noise(folder), tile)
+    data = tile.read_bytes()
+    side = math.isqrt(int(size / len(data) * 3 / 4))
+    with contextlib.closing(sqlite3.connect(made)) as opened, opened:
+        opened.execute("CREATE TABLE metadata (name TEXT, value TEXT)")
+        opened.execute("CREATE TABLE tiles (zoom_level INTEGER, tile_column INTEGER, tile_row INTEGER, tile_data BLOB)")
+        told = {"name": "map", "format": "jpg", "minzoom": 10, "maxzoom": 17, "type": "baselayer", "version": "1.1"}
+        opened.executemany("INSERT INTO metadata VALUES (?, ?)", [(it, str(value)) for it, value in told.items()])
+        for zoom in range(10, 18):
+            count, (column, row) = max(1, side >> (17 - zoom)), place_of(zoom)
+            left, top = column - count // 2, row - count // 2
+            tiles = ((zoom, left + it % count, (1 << zoom) - 1 - top - it // count, data) for it in range(count * count))
+            opened.executemany("INSERT INTO tiles VALUES (?, ?, ?, ?)", tiles)
+        opened.execute("CREATE UNIQUE INDEX tile_index ON tiles (zoom_level, tile_column, tile_row)")
+    return made
 
 
 class Server:
@@ -144,15 +179,34 @@ def measure(picture, side):
     server.end()
 
 
+def measure_mbtiles(file):
+    """Opens an MBTiles behind a work in EPSG:25832, into whose system each part is brought over."""
+    print(f"an MBTiles of {file.stat().st_size / 1e9:.1f} GB", flush=True)
+    server, corner = Server(file), (490_000, 5_600_000)
+    tell("opened, from the start of the program on", [server.opened])
+    tell("the list", [server.ask(f"maps?system={SYSTEM}")[0]])
+    column, row = int(10_000 / 0.8 / 256), int(6_000 / 0.8 / 256)
+    tell("the first part, pixel by pixel", [server.part(0.8, column, row, corner=corner)])
+    near = [server.part(0.8, column + it % 8, row + 1 + it // 8, corner=corner) for it in range(PARTS)]
+    tell(f"{PARTS} parts about it, pixel by pixel", near)
+    for pixel in (3.2, 12.8, 51.2):
+        places = (int(10_000 / pixel / 256), int(6_000 / pixel / 256))
+        tell(f"a part of {pixel:g} m a pixel", [server.part(pixel, *places, corner=corner) for _ in range(3)])
+    print(f"the peak of its memory: {server.peak():.0f} MiB")
+    server.end()
+
+
 def main():
     words = argparse.ArgumentParser(description=__doc__, formatter_class=argparse.RawDescriptionHelpFormatter)
     words.add_argument("--folder", help="where the files are made (default: the system's folder for such)")
     words.add_argument("--side", type=int, default=10, help="how many tiles of 10,000 pixels each way (default: 10)")
+    words.add_argument("--mbtiles", type=float, metavar="GB", help="an MBTiles of so many GB instead")
     given = words.parse_args()
     with tempfile.TemporaryDirectory(dir=given.folder) as name:
-        picture = make_picture(pathlib.Path(name), given.side)
+        folder = pathlib.Path(name)
+        made = make_mbtiles(folder, 1e9 * given.mbtiles) if given.mbtiles else make_picture(folder, given.side)
         print(f"beside: load {os.getloadavg()[0]:.1f} on {os.cpu_count()} processors", flush=True)
-        measure(picture, given.side)
+        measure_mbtiles(made) if given.mbtiles else measure(made, given.side)
     return 0
 
 

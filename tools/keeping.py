@@ -121,10 +121,24 @@ def hand_over(file, path, folder, mark):
     """
     with made_near(path, folder, mark) as copy:
         copy_whole(file, copy)
-        # Another office may have handed out there meanwhile.
         expect_new_database(path)
-        os.replace(copy, path)
+        name_new(copy, path)
     flush(path.parent)
+
+
+def name_new(copy, path):
+    """Gives a copy a name that nobody has: another office may have handed out there meanwhile."""
+    try:
+        os.link(copy, path)
+    except FileExistsError:
+        expect_new_database(path)
+        raise
+    except OSError:
+        # The disk has no links, as a stick's: between this look and the naming another may still come.
+        expect_new_database(path)
+        os.rename(copy, path)
+    else:
+        copy.unlink()
 
 
 def copy_whole(file, copy):

@@ -8,10 +8,12 @@ No program is run: these are tools/homecoming.py, tools/lineage.py and tools/kee
 
 import contextlib
 import io
+import os
 import pathlib
 import sys
 import tempfile
 import unittest
+import unittest.mock
 
 sys.path.insert(0, str(pathlib.Path(__file__).resolve().parents[2] / "tools"))
 import homecoming  # noqa: E402
@@ -387,6 +389,23 @@ class Folders(unittest.TestCase):
             it.touch()
         keeping.clear_parts(self.place, [NORTH, SOUTH])
         self.assertEqual([it.exists() for it in halves], [False, True])
+
+    def test_a_copy_that_came_meanwhile_is_not_written_over(self):
+        made, taken = self.place / "copy.mmpkg", self.place / "crew.mmpkg"
+        made.write_bytes(b"mine")
+        taken.write_bytes(b"another's")
+        with self.assertRaises(Refused):
+            keeping.name_new(made, taken)
+        self.assertEqual([taken.read_bytes(), made.read_bytes()], [b"another's", b"mine"])
+
+    def test_a_copy_is_named_on_a_disk_without_links(self):
+        made, name = self.place / "copy.mmpkg", self.place / "crew.mmpkg"
+        for link in (os.link, None):
+            made.write_bytes(b"mine")
+            with unittest.mock.patch.object(os, "link", link or unittest.mock.Mock(side_effect=PermissionError)):
+                keeping.name_new(made, name)
+            self.assertEqual([name.read_bytes(), made.exists()], [b"mine", False])
+            name.unlink()
 
 
 if __name__ == "__main__":

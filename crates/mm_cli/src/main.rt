@@ -3,10 +3,12 @@
 //! - `telling`: what is told to people on standard error, beside what is printed.
 //! - `records`: the records that were read and are not answered yet, for the words about their fields.
 //! - `kits`: which record or file of a kit is refused.
+//! - `slips`: records that are taken, and are hardly meant as they are.
 #![tactic(auto)]
 
 mod kits;
 mod records;
+mod slips;
 mod telling;
 
 use crate::telling::{run_told, warn_of_name};

@@ -160,16 +160,21 @@ impl<'a> Records<'a> {
     }
 }
 
+/// The fields of a record.
+pub fn fields_of(alloc: Global, text: &StringRecord) -> io::Result<Vec<&str>> {
+    let mut fields = Vec::new(alloc);
+    for field in text.iter() {
+        fields.push(field)?;
+    }
+    Ok(fields)
+}
+
 /// Tells which field of a record is refused with this number, where it is one.
 pub fn tell_field(rt: &HostRuntime, row: ByteRecord, number: u8) -> io::Result<()> {
     let Ok(text) = StringRecord::from_byte_record(row) else {
         return eprint!(rt; ": a field isn't UTF-8");
     };
-    let mut fields = Vec::new(rt.alloc());
-    for field in text.iter() {
-        fields.push(field)?;
-    }
-    match remark_on(fields.as_slice(), number) {
+    match remark_on(fields_of(rt.alloc(), &text)?.as_slice(), number) {
         Some(remark) => eprint!(rt; ": {remark}"),
         None => Ok(()),
     }

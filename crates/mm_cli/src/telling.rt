@@ -1,7 +1,9 @@
 //! What is told to people on standard error, beside what is printed.
 
 use crate::kits::tell_piece;
-use crate::records::{Ear, Records, Run, length_of_input, tell_field};
+use crate::records::{Ear, Records, Run, fields_of, length_of_input, tell_field};
+use crate::slips::slip_of;
+use csv::{ByteRecord, StringRecord};
 use mm_arguments::{Aids, Request, read_arguments};
 use mm_definitions::ends::UntilEnd;
 use mm_definitions::streams::Io;
@@ -96,6 +98,21 @@ impl Eye<'_> {
         Ok(())
     }
 
+    /// Tells what of a record that was taken is hardly meant as it is.
+    fn say_slip(&mut self, line: &str, row: ByteRecord) -> io::Result<()> {
+        let Ok(text) = StringRecord::from_byte_record(row) else {
+            return Ok(());
+        };
+        let fields = fields_of(self.rt.alloc(), &text)?;
+        let Some(slip) = slip_of(fields.as_slice()) else {
+            return Ok(());
+        };
+        if let Some(progress) = &mut self.progress {
+            progress.clear();
+        }
+        eprintln!(self.rt; "{line}: {slip}")
+    }
+
     /// Tells it with the field of the record that the line answers, where it is one's.
     fn say_all(&mut self, line: &str) {
         let is_answer = line
@@ -108,6 +125,9 @@ impl Eye<'_> {
             None => return,
         };
         let Some(told) = told_of(line) else {
+            if let Some(row) = row {
+                let _told = self.say_slip(line, row);
+            }
             return;
         };
         if let Some(progress) = &mut self.progress {

@@ -1114,6 +1114,17 @@ IS_DRAWN = """((id, right, down) => {
 })"""
 
 
+def check_a_map_that_goes_while_marks_are_drawn(scene):
+    """A map that is moved and left in one moment, before its marks were drawn anew, goes without a word."""
+    _, crew = scene.begin()
+    crew.page.wait("marked.size > 0")
+    other = "byId('pyramids').value = 'plan'; byId('pyramids').dispatchEvent(new Event('change'));"
+    drawn = "[...marked.values()][0].mark.redraw(); map.setView(map.getCenter(), map.getZoom() - 1, { animate: false });"
+    crew.value(f"(() => {{ {drawn} {other} }})()")
+    crew.page.wait("new Promise(good => requestAnimationFrame(() => requestAnimationFrame(() => good(true))))")
+    expect_quiet(crew)
+
+
 def check_the_shape_of_a_mark(scene):
     """Waiting, refused and other marks differ by their shape, and not by their colour alone."""
     seat, crew = scene.begin()

@@ -20,7 +20,7 @@ function showMarks() {
   if (!map || !rows.showing) return;
   const placed = rows.found.map(row => [row, placeIn(row.note)]).filter(([, place]) => place?.system === shown.srs_id);
   const isNew = marks?._map !== map, before = isNew ? new Map() : marked;
-  const drawing = () => ({ canvas: L.canvas({ tolerance: 8 }), Mark: markWithCorners() });
+  const drawing = () => ({ canvas: newCanvas({ tolerance: 8 }), Mark: markWithCorners() });
   if (isNew) marks = Object.assign(L.layerGroup().addTo(map), drawing());
   marked = new Map();
   for (const [row, place] of placed) {

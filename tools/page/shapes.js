@@ -5,9 +5,19 @@ const MOST_NAMES = 60;
 // No mark, no place and no device has these.
 const COLOURS = ["#00695c", "#ad1457", "#5d4037", "#37474f"];
 
+/**
+ * A canvas of Leaflet's that draws nothing once it has gone. What it was to draw before the map moved Leaflet forgets,
+ * and doesn't call off where the map goes then.
+ */
+const newCanvas = how => new (L.Canvas.extend({
+  _redraw() {
+    if (this._ctx) L.Canvas.prototype._redraw.call(this);
+  },
+}))(how);
+
 /** The layer of shapes: those in sight, and names beside those that have room. */
 function shapesLayer(it) {
-  const pane = paneOf(it), renderer = L.canvas({ pane, padding: BEFOREHAND });
+  const pane = paneOf(it), renderer = newCanvas({ pane, padding: BEFOREHAND });
   const before = { renderer, box: null, pixel: 0, column: "", stop: null, names: [], shapes: null, count: "" };
   const layer = Object.assign(L.layerGroup(), before);
   return layer.on("remove", () => { forgetShapes(layer); });

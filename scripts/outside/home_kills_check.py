@@ -44,7 +44,7 @@ session.Session.ask = ask
 AT_A_STEP = """
 import os, shutil, signal, sys
 homecoming.KIT_PIECES, left, inside = 3, [{at}], [False]
-STEPS = "os.mkdir", "os.rename", "os.remove", "os.rmdir", "shutil.copyfile", "shutil.rmtree", "subprocess.Popen", "open"
+STEPS = "os.mkdir", "os.link", "os.rename", "os.remove", "os.rmdir", "shutil.copyfile", "shutil.rmtree", "subprocess.Popen", "open"
 
 def is_there(path):
     path = os.fsdecode(path) if isinstance(path, (str, bytes, os.PathLike)) else "/"
@@ -388,7 +388,7 @@ def check_two_offices_at_one_stick(folder):
     offices = list(two_offices(folder))
     hand_out(offices[1], "north")
     with on_another_disk(folder) as place:
-        handed_out_meanwhile(offices, place, "os.replace")
+        handed_out_meanwhile(offices, place, "os.link")
         for office, name in zip(offices, ("north_1.mmpkg", "north_2.mmpkg")):
             expect_another(office, place / name, set())
 

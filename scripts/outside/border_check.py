@@ -32,12 +32,18 @@ TOOLS = TOP / "tools"
 sys.path.insert(0, str(TOOLS))
 import import_standard  # noqa: E402
 import points  # noqa: E402
+
 from border import (  # noqa: E402
     KIT_PIECES, UNITS_OF_VERSION, UNITS_PER_METRE, Piece, Refused, media_piece, record, tile_piece, whole_units,
 )  # fmt: skip
 
 UTM = 'PROJCS["a grid",GEOGCS["g",DATUM["d",SPHEROID["s",6378137,298]],PRIMEM["p",0],UNIT["degree",0.01745]],UNIT["metre",1]]'
-NOT_COMPARED = {("gpkg_contents", "last_change"), ("gpkgext_relations", "id"), ("mm_tiles", "blob"), ("mm_media", "blob")}
+NOT_COMPARED = {
+    ("gpkg_contents", "last_change"),
+    ("gpkgext_relations", "id"),
+    ("mm_tiles", "blob"),
+    ("mm_media", "blob"),
+}
 RELATIONSHIPS = """
 import sys
 from osgeo import gdal
@@ -60,14 +66,20 @@ def new_package(file, records, status=0):
 
 def listing(file):
     """The tables that the program lists, without the editions."""
-    return [line for line in mmpkg("list", file).splitlines() if not re.fullmatch("edition [a-z0-9_]+ (open [0-9]+|published)", line)]
+    return [
+        line
+        for line in mmpkg("list", file).splitlines()
+        if not re.fullmatch("edition [a-z0-9_]+ (open [0-9]+|published)", line)
+    ]
 
 
 def rows_of(file):
     """By table, the rows of a package that are compared. What the staged pieces of one have alone, the other hasn't."""
     with contextlib.closing(sqlite3.connect(f"file:{file}?mode=ro", uri=True)) as opened:
         tables = [name for (name,) in opened.execute("SELECT name FROM sqlite_schema WHERE type = 'table'")]
-        return {table: compared(opened, table) for table in tables if table not in ("mm_editions", "mm_pieces", "mm_blobs")}
+        return {
+            table: compared(opened, table) for table in tables if table not in ("mm_editions", "mm_pieces", "mm_blobs")
+        }
 
 
 def compared(opened, table):
@@ -96,7 +108,11 @@ def sums_of_tiles(file, query):
     """The sums of all tiles, by pyramid, zoom, column and row."""
     with contextlib.closing(sqlite3.connect(f"file:{file}?mode=ro", uri=True)) as opened:
         tables = [name for (name,) in opened.execute("SELECT table_name FROM gpkg_contents WHERE data_type = 'tiles'")]
-        return {(table, *row[:3]): hashlib.sha256(row[3]).hexdigest() for table in tables for row in opened.execute(query.format(table))}
+        return {
+            (table, *row[:3]): hashlib.sha256(row[3]).hexdigest()
+            for table in tables
+            for row in opened.execute(query.format(table))
+        }
 
 
 def expect_same_content(file, out):
@@ -158,9 +174,16 @@ def expect_round_trip(file, folder, *kit, valid=True, moment=0):
 def nine_tiles():
     """Nine coloured tiles with a spot, a photo and their relation."""
     png = page_map.png_of((1, 2, 3))
-    pieces = [Piece(["row", "spots", 7, "Well", "by the road, north", 3]), media_piece("photos", 1, "image/png", png),
-              Piece(["map", "spots_photos", 7, 1])]
-    layout = ["table,spots,attributes,Spots\n", "table,photos,media,Photos\n", "relation,spots_photos,spots,photos,media\n"]
+    pieces = [
+        Piece(["row", "spots", 7, "Well", "by the road, north", 3]),
+        media_piece("photos", 1, "image/png", png),
+        Piece(["map", "spots_photos", 7, 1]),
+    ]
+    layout = [
+        "table,spots,attributes,Spots\n",
+        "table,photos,media,Photos\n",
+        "relation,spots_photos,spots,photos,media\n",
+    ]
     return page_map.records() + "".join(layout) + "".join(piece.command() for piece in pieces)
 
 
@@ -189,7 +212,11 @@ def check_nine_tiles_by_gdal(folder):
     expect_same_content(folder / "a.mmpkg", out)
     info, told = run("gdalinfo", out)
     expect(told, "", "what gdalinfo tells")
-    for line in ("Size is 192, 192", "Pixel Size = (1.000000000000000,-1.000000000000000)", 'PROJCRS["ETRS89 / UTM zone 32N"'):
+    for line in (
+        "Size is 192, 192",
+        "Pixel Size = (1.000000000000000,-1.000000000000000)",
+        'PROJCRS["ETRS89 / UTM zone 32N"',
+    ):
         assert line in info, f"gdalinfo doesn't tell {line}"
     run("gdal_translate", "-q", "-of", "PNG", "-b", "1", "-b", "2", "-b", "3", out, folder / "all.png")
     rows = page_map.read_png((folder / "all.png").read_bytes())
@@ -197,8 +224,14 @@ def check_nine_tiles_by_gdal(folder):
     expect(found, page_map.COLOURS, "colours of gdal_translate")
     layers, told = run("ogrinfo", "-al", out)
     expect(told, "", "what ogrinfo tells")
-    for line in ("OGRFeature(spots):7", "title (String) = Well", "note (String) = by the road, north", "amount (Integer64) = 3",
-                 "OGRFeature(photos):1", "content_type (String) = image/png"):
+    for line in (
+        "OGRFeature(spots):7",
+        "title (String) = Well",
+        "note (String) = by the road, north",
+        "amount (Integer64) = 3",
+        "OGRFeature(photos):1",
+        "content_type (String) = image/png",
+    ):
         assert line in layers, f"ogrinfo doesn't tell {line}"
     expect(run(python_with_gdal, "-c", RELATIONSHIPS, out)[0], "spots photos spots_photos media\n", "relations by GDAL")
 
@@ -224,7 +257,12 @@ def random_pyramid(source, name, system):
     """A pyramid of one to three zooms with some of its tiles, anywhere within the limits."""
     step = source.choice(["two", "other"])
     factors = [2 if step == "two" else source.randint(2, 5) for _ in range(source.randint(0, 2))]
-    pixel, side, wide, high = source.randint(1, 20000), source.choice([1, 16, 60]), source.randint(1, 3), source.randint(1, 3)
+    pixel, side, wide, high = (
+        source.randint(1, 20000),
+        source.choice([1, 16, 60]),
+        source.randint(1, 3),
+        source.randint(1, 3),
+    )
     zoom, pixels = source.randint(0, 20), [pixel]
     for factor in factors:
         pixels.insert(0, pixels[0] * factor)
@@ -232,33 +270,56 @@ def random_pyramid(source, name, system):
     for factor in factors:
         tiles *= factor
     extent = (wide * side * pixels[0], high * side * pixels[0])
-    x, y = (source.randint(-10**11, 10**11 - length) for length in extent)
+    x, y = (source.randint(-(10**11), 10**11 - length) for length in extent)
     lines = [record(["pyramid", name, f"Map {name}", system, x, y, x + extent[0], y + extent[1], step])]
     for level, size in enumerate(pixels):
         count = pixels[0] // size
         lines.append(record(["matrix", name, zoom + level, wide * count, high * count, side, side, size, size]))
         for _ in range(4):
             colour = tuple(source.randbytes(3))
-            lines.append(tile_piece(name, zoom + level, source.randrange(wide * count), source.randrange(high * count),
-                                    page_map.png_of(colour)).command())
+            lines.append(
+                tile_piece(
+                    name,
+                    zoom + level,
+                    source.randrange(wide * count),
+                    source.randrange(high * count),
+                    page_map.png_of(colour),
+                ).command()
+            )
     return lines
 
 
 def random_package(seed):
     """Records of a package by a seed: systems, pyramids, rows, media, relations and an edition, with odd texts and numbers at their limits."""
     source = random.Random(seed)
-    lines = [record(["srs", 2**53, random_text(source, 1), "NONE", 1, "no wkt", random_text(source, 0)]),
-             record(["srs", 31467, "a grid", "EPSG", 31467, UTM, ""])]
+    lines = [
+        record(["srs", 2**53, random_text(source, 1), "NONE", 1, "no wkt", random_text(source, 0)]),
+        record(["srs", 31467, "a grid", "EPSG", 31467, UTM, ""]),
+    ]
     for number in range(3):
         lines += random_pyramid(source, f"map_{number}", source.choice([-1, 31467, 2**53]))
     for number, kind in enumerate(["attributes", "media", "attributes", "media"]):
-        lines.append(record(["table", f"{kind}_{number}", kind, f"Ümlaut, \"{number}\""]))
-    numbers = {name: sorted({2**53, *(source.randint(1, 2**source.randint(1, 53)) for _ in range(6))}) for name in
-               ("attributes_0", "media_1", "attributes_2", "media_3")}
+        lines.append(record(["table", f"{kind}_{number}", kind, f'Ümlaut, "{number}"']))
+    numbers = {
+        name: sorted({2**53, *(source.randint(1, 2 ** source.randint(1, 53)) for _ in range(6))})
+        for name in ("attributes_0", "media_1", "attributes_2", "media_3")
+    }
     for name, ids in numbers.items():
         for number in ids:
-            piece = (media_piece(name, number, "x.a/b+c", source.randbytes(source.randint(1, 3000))) if name.startswith("media") else
-                     Piece(["row", name, number, random_text(source, 0), random_text(source, 0), source.choice([-1, 1]) * 10**source.randint(0, 15)]))
+            piece = (
+                media_piece(name, number, "x.a/b+c", source.randbytes(source.randint(1, 3000)))
+                if name.startswith("media")
+                else Piece(
+                    [
+                        "row",
+                        name,
+                        number,
+                        random_text(source, 0),
+                        random_text(source, 0),
+                        source.choice([-1, 1]) * 10 ** source.randint(0, 15),
+                    ]
+                )
+            )
             lines.append(piece.command())
     lines += [record(["edition", "draft"]), record(["stage", "draft", 1, "row-drop", "attributes_0", 2**53])]
     for number in range(4):
@@ -286,8 +347,14 @@ def check_round_trip_of_random_3(folder):
     """By a command list; the open edition is named, and the system whose number GDAL can't read."""
     new_package(folder / "a.mmpkg", random_package(3))
     told = export(folder / "a.mmpkg", folder / "told.gpkg").splitlines()
-    expect([line.split(": ")[1:3] for line in told], [["system 9007199254740992", "GDAL reads numbers of systems as 32 bits, and takes it for another"],
-                                                      ["edition draft", "left out, open with pieces"]], "what the export tells")
+    expect(
+        [line.split(": ")[1:3] for line in told],
+        [
+            ["system 9007199254740992", "GDAL reads numbers of systems as 32 bits, and takes it for another"],
+            ["edition draft", "left out, open with pieces"],
+        ],
+        "what the export tells",
+    )
     expect_round_trip(folder / "a.mmpkg", folder)
 
 
@@ -310,21 +377,49 @@ INSERT INTO base (zoom_level, tile_column, tile_row, tile_data) VALUES (5, 0, 0,
 INSERT INTO gpkg_tile_matrix VALUES ('base', 5, 9, 9, 64, 64, 0.3333, 0.3333);
 """
 UNIT = 1 / UNITS_PER_METRE
-FOREIGN_PYRAMIDS = [("Base Map", 25832, 64.0, 1.0), ("fine", 25832, 32 * UNIT, UNIT / 2), ("part", 25832, 64 + UNIT / 2, 1.0),
-                    ("world", 4326, 64.0, 1.0), ("degrees", 4258, 64.0, 1.0), ("feet", 2225, 64.0, 1.0), ("far", 25832, 10**8 + UNIT, 1.0)]
-LEFT_OUT = ["system 2225", "system 4258", "table 'Base Map'", "table 'crew'", "table 'degrees'", "table 'far'", "table 'feet'",
-            "matrix of fine at zoom 0", "table 'part'", "table 'roads'", "table 'world'", "matrix of base at zoom 5", "relation 'crew_spots'",
-            "row 8 of spots", "row 9 of spots", "media item 4 of photos", "mapping row 8, 1 of spots_photos", "tile 0/3/0 of base",
-            "tiles of base at zoom 5"]
+FOREIGN_PYRAMIDS = [
+    ("Base Map", 25832, 64.0, 1.0),
+    ("fine", 25832, 32 * UNIT, UNIT / 2),
+    ("part", 25832, 64 + UNIT / 2, 1.0),
+    ("world", 4326, 64.0, 1.0),
+    ("degrees", 4258, 64.0, 1.0),
+    ("feet", 2225, 64.0, 1.0),
+    ("far", 25832, 10**8 + UNIT, 1.0),
+]
+LEFT_OUT = [
+    "system 2225",
+    "system 4258",
+    "table 'Base Map'",
+    "table 'crew'",
+    "table 'degrees'",
+    "table 'far'",
+    "table 'feet'",
+    "matrix of fine at zoom 0",
+    "table 'part'",
+    "table 'roads'",
+    "table 'world'",
+    "matrix of base at zoom 5",
+    "relation 'crew_spots'",
+    "row 8 of spots",
+    "row 9 of spots",
+    "media item 4 of photos",
+    "mapping row 8, 1 of spots_photos",
+    "tile 0/3/0 of base",
+    "tiles of base at zoom 5",
+]
 
 
 def add_foreign(out):
     with contextlib.closing(sqlite3.connect(out)) as opened:
         opened.executescript(FOREIGN)
         for name, system, width, pixel in FOREIGN_PYRAMIDS:
-            opened.execute(f'CREATE TABLE "{name}" (id INTEGER PRIMARY KEY, zoom_level, tile_column, tile_row, tile_data)')
-            opened.execute("INSERT INTO gpkg_contents VALUES (?, 'tiles', ?, '', '2026-01-01T00:00:00.000Z', 0, 0, ?, ?, ?)",
-                           (name, name, width, width, system))
+            opened.execute(
+                f'CREATE TABLE "{name}" (id INTEGER PRIMARY KEY, zoom_level, tile_column, tile_row, tile_data)'
+            )
+            opened.execute(
+                "INSERT INTO gpkg_contents VALUES (?, 'tiles', ?, '', '2026-01-01T00:00:00.000Z', 0, 0, ?, ?, ?)",
+                (name, name, width, width, system),
+            )
             opened.execute("INSERT INTO gpkg_tile_matrix_set VALUES (?, ?, 0, 0, ?, ?)", (name, system, width, width))
             opened.execute("INSERT INTO gpkg_tile_matrix VALUES (?, 0, 1, 1, 64, 64, ?, ?)", (name, pixel, pixel))
         opened.commit()
@@ -333,26 +428,49 @@ def add_foreign(out):
 def check_what_is_whole(_):
     """The rounding of sums of DOUBLEs is passed over, and nothing that could be meant."""
     unit = UNITS_PER_METRE
-    for metres, units in ((3 * 0.1, 3 * unit // 10), (5_600_000.1 + 0.2, 56_000_003 * unit // 10), (1e8, 10**8 * unit), (-2, -2 * unit),
-                          (1 / unit, 1), (0.5 / unit, None), (1.001 / unit, None), (1 / 3, None), (float("nan"), None), (None, None), ("1", None)):
+    for metres, units in (
+        (3 * 0.1, 3 * unit // 10),
+        (5_600_000.1 + 0.2, 56_000_003 * unit // 10),
+        (1e8, 10**8 * unit),
+        (-2, -2 * unit),
+        (1 / unit, 1),
+        (0.5 / unit, None),
+        (1.001 / unit, None),
+        (1 / 3, None),
+        (float("nan"), None),
+        (None, None),
+        ("1", None),
+    ):
         expect(whole_units(metres), units, f"{metres} m in units")
 
 
 FOOT, METRE, DEGREE = 'UNIT["US survey foot",0.3048006]', 'UNIT["metre",1]', 'UNIT["degree",0.0174532925199433]'
-NEWER = ('PROJCRS["n",BASEGEOGCRS["g",PRIMEM["p",0,ANGLEUNIT["degree",0.0174532925199433]]],CONVERSION["c",METHOD["m"],'
-         'PARAMETER["p",0,LENGTHUNIT["metre",1]]],CS[Cartesian,2],AXIS["(E)",east,ORDER[1],LENGTH{0}],AXIS["(N)",north,ORDER[2],LENGTH{0}]]')
+NEWER = (
+    'PROJCRS["n",BASEGEOGCRS["g",PRIMEM["p",0,ANGLEUNIT["degree",0.0174532925199433]]],CONVERSION["c",METHOD["m"],'
+    'PARAMETER["p",0,LENGTHUNIT["metre",1]]],CS[Cartesian,2],AXIS["(E)",east,ORDER[1],LENGTH{0}],AXIS["(N)",north,ORDER[2],LENGTH{0}]]'
+)
 
 
 def check_units_of_systems(_):
     """A system is taken only where its coordinates are no degrees and no feet, also with heights, of a site alone, and in the newer WKT."""
     plane = f'PROJCS["n",GEOGCS["g",{DEGREE}],{{}}]'
     foot, degrees = "its unit isn't the metre", "it is geographic"
-    for definition, why in ((plane.format(METRE), None), (plane.format(FOOT), foot), (f'GEOGCS["g",{DEGREE}]', degrees),
-                            (f'COMPD_CS["h",{plane.format(METRE)},VERT_CS["v",{FOOT}]]', None),
-                            (f'COMPD_CS["h",{plane.format(FOOT)},VERT_CS["v",{METRE}]]', foot),
-                            (f'COMPD_CS["h",GEOGCS["g",{DEGREE}],VERT_CS["v",{METRE}]]', degrees), (f'LOCAL_CS["site",{FOOT}]', foot),
-                            (f'LOCAL_CS["site",{METRE}]', None), (NEWER.format(METRE), None), (NEWER.format(FOOT), foot), ("undefined", None)):
-        expect(import_standard.why_no_system((9, "n", "EPSG", 9, definition, "")), why, f"why {definition} is no system")
+    for definition, why in (
+        (plane.format(METRE), None),
+        (plane.format(FOOT), foot),
+        (f'GEOGCS["g",{DEGREE}]', degrees),
+        (f'COMPD_CS["h",{plane.format(METRE)},VERT_CS["v",{FOOT}]]', None),
+        (f'COMPD_CS["h",{plane.format(FOOT)},VERT_CS["v",{METRE}]]', foot),
+        (f'COMPD_CS["h",GEOGCS["g",{DEGREE}],VERT_CS["v",{METRE}]]', degrees),
+        (f'LOCAL_CS["site",{FOOT}]', foot),
+        (f'LOCAL_CS["site",{METRE}]', None),
+        (NEWER.format(METRE), None),
+        (NEWER.format(FOOT), foot),
+        ("undefined", None),
+    ):
+        expect(
+            import_standard.why_no_system((9, "n", "EPSG", 9, definition, "")), why, f"why {definition} is no system"
+        )
 
 
 def check_what_is_left_out(folder):
@@ -385,7 +503,12 @@ def check_what_is_refused(folder):
     (folder / "stands.gpkg").write_bytes(b"stands")
     files = sorted(folder.iterdir())
     before = [file.read_bytes() for file in files]
-    for name, line, status in (("none", "not a package 94", 4), ("other", "not a package 94", 4), ("notes", "fault 91", 3), ("a", "rule Q16", 4)):
+    for name, line, status in (
+        ("none", "not a package 94", 4),
+        ("other", "not a package 94", 4),
+        ("notes", "fault 91", 3),
+        ("a", "rule Q16", 4),
+    ):
         _, told = tool("export_standard.py", folder / f"{name}.mmpkg", folder / "out.gpkg", status=status)
         expect(told, f"{folder / name}.mmpkg: {line}\n", f"what is told of {name}")
     tool("export_standard.py", folder / "a.mmpkg", folder / "stands.gpkg", status=2)
@@ -406,14 +529,24 @@ def check_units_of_the_profile(folder):
         run("env", "MMPKG=true", TOOLS / "export_standard.py", folder / "a.mmpkg", out)
         with contextlib.closing(sqlite3.connect(out)) as opened:
             for table in ("gpkg_contents", "gpkg_tile_matrix_set"):
-                expect(opened.execute(f"SELECT max_x FROM {table} WHERE table_name = 'base'").fetchone(), (wide / units,), table)
-            expect(opened.execute("SELECT pixel_x_size FROM gpkg_tile_matrix").fetchone(), (wide / 192 / units,), "pixel size")
+                expect(
+                    opened.execute(f"SELECT max_x FROM {table} WHERE table_name = 'base'").fetchone(),
+                    (wide / units,),
+                    table,
+                )
+            expect(
+                opened.execute("SELECT pixel_x_size FROM gpkg_tile_matrix").fetchone(),
+                (wide / 192 / units,),
+                "pixel size",
+            )
 
 
 def check_what_stands_in_the_journal(folder):
     """A command that was answered crosses where the program was killed behind it, when it stands in the journal alone."""
     mmpkg("init", folder / "a.mmpkg")
-    with subprocess.Popen([PROGRAM, "run", folder / "a.mmpkg", "--at", "0"], stdin=subprocess.PIPE, stdout=subprocess.PIPE) as running:
+    with subprocess.Popen(
+        [PROGRAM, "run", folder / "a.mmpkg", "--at", "0"], stdin=subprocess.PIPE, stdout=subprocess.PIPE
+    ) as running:
         running.stdin.write(b"table,spots,attributes,Spots\nrow,spots,1,Well,,2\n")
         running.stdin.flush()
         expect([running.stdout.readline() for _ in range(2)], [b"1 ok\n", b"2 ok\n"], "answers")
@@ -441,7 +574,9 @@ def check_a_link_to_a_package(folder):
         (folder / name).mkdir()
     new_package(folder / "here" / "a.mmpkg", nine_tiles())
     (folder / "there" / "a.mmpkg").symlink_to(folder / "here" / "a.mmpkg")
-    with subprocess.Popen([PROGRAM, "run", folder / "here" / "a.mmpkg", "--at", "0"], stdin=subprocess.PIPE, stdout=subprocess.PIPE) as running:
+    with subprocess.Popen(
+        [PROGRAM, "run", folder / "here" / "a.mmpkg", "--at", "0"], stdin=subprocess.PIPE, stdout=subprocess.PIPE
+    ) as running:
         running.stdin.write(b"row,spots,1,Oak,,2\n")
         running.stdin.flush()
         expect(running.stdout.readline(), b"1 ok\n", "the answer")
@@ -451,7 +586,11 @@ def check_a_link_to_a_package(folder):
     expect(mmpkg("show", folder / "mended.mmpkg", "spots", "1"), "row,spots,1,Oak,,2\n", "the row of the journal")
     (folder / "there" / "in.gpkg").symlink_to(folder / "here" / "out.gpkg")
     with contextlib.closing(sqlite3.connect(folder / "here" / "out.gpkg")) as opened:
-        expect(opened.execute("SELECT title FROM spots ORDER BY id").fetchall(), [("Oak",), ("Well",)], "rows that went out")
+        expect(
+            opened.execute("SELECT title FROM spots ORDER BY id").fetchall(),
+            [("Oak",), ("Well",)],
+            "rows that went out",
+        )
         opened.execute("PRAGMA journal_mode = WAL")
         opened.execute("UPDATE spots SET title = 'Ash' WHERE id = 1")
         opened.commit()
@@ -462,8 +601,11 @@ def check_a_link_to_a_package(folder):
 def check_a_journal_beside_a_name(folder):
     """Nothing is made where a journal of an earlier file would be taken for its own."""
     new_package(folder / "a.mmpkg", nine_tiles())
-    for name, out, suffix in (("export_standard.py", "out.gpkg", "-wal"), ("export_standard.py", "other.gpkg", "-journal"),
-                              ("repair_gis.py", "back.mmpkg", "-wal")):
+    for name, out, suffix in (
+        ("export_standard.py", "out.gpkg", "-wal"),
+        ("export_standard.py", "other.gpkg", "-journal"),
+        ("repair_gis.py", "back.mmpkg", "-wal"),
+    ):
         (folder / f"{out}{suffix}").write_bytes(b"of before")
         _, told = tool(name, folder / "a.mmpkg", folder / out, status=2)
         assert f"{out}{suffix}: is there, and is not overwritten" in told, told
@@ -474,7 +616,9 @@ def check_reading_in_place(folder):
     """A package whose journal holds nothing is read without a copy; where a copy has no room that is told with what it wants."""
     new_package(folder / "a.mmpkg", nine_tiles())
     patched("export_standard", "border.shutil.copyfile = None", folder / "a.mmpkg", folder / "in_place.gpkg")
-    with subprocess.Popen([PROGRAM, "run", folder / "a.mmpkg", "--at", "0"], stdin=subprocess.PIPE, stdout=subprocess.PIPE) as running:
+    with subprocess.Popen(
+        [PROGRAM, "run", folder / "a.mmpkg", "--at", "0"], stdin=subprocess.PIPE, stdout=subprocess.PIPE
+    ) as running:
         running.stdin.write(b"row,spots,1,Well,,2\n")
         running.stdin.flush()
         expect(running.stdout.readline(), b"1 ok\n", "the answer")
@@ -482,7 +626,9 @@ def check_reading_in_place(folder):
         running.kill()
     no_room = "border.shutil.disk_usage = lambda _: types.SimpleNamespace(free=0)"
     _, told = patched("export_standard", no_room, folder / "a.mmpkg", folder / "out.gpkg", status=2)
-    assert re.search(r"a copy is read, which wants \d+ MB in /\S+, where 0 MB are free; TMPDIR names another folder\n$", told), told
+    assert re.search(
+        r"a copy is read, which wants \d+ MB in /\S+, where 0 MB are free; TMPDIR names another folder\n$", told
+    ), told
 
 
 def check_stopped_by_hand(folder):
@@ -493,9 +639,19 @@ def check_stopped_by_hand(folder):
     (folder / "tiles" / "0" / "0" / "0.png").write_bytes(page_map.png_of((1, 2, 3)))
     files = sorted(folder.rglob("*"))
     stop = "os.kill(os.getpid(), signal.SIGINT)"
-    for name, patch, words in (("import_standard", f"border.KitWriter.end = lambda *_: {stop}", (folder / "in.gpkg", folder / "l", "--kit", "k", folder / "k")),
-                               ("make_kit", f"border.KitWriter.end = lambda *_: {stop}", (folder / "tiles", "base", "k", folder / "k")),
-                               ("export_standard", f"export_standard.write_relations = lambda *_: {stop}", (folder / "a.mmpkg", folder / "out.gpkg"))):
+    for name, patch, words in (
+        (
+            "import_standard",
+            f"border.KitWriter.end = lambda *_: {stop}",
+            (folder / "in.gpkg", folder / "l", "--kit", "k", folder / "k"),
+        ),
+        ("make_kit", f"border.KitWriter.end = lambda *_: {stop}", (folder / "tiles", "base", "k", folder / "k")),
+        (
+            "export_standard",
+            f"export_standard.write_relations = lambda *_: {stop}",
+            (folder / "a.mmpkg", folder / "out.gpkg"),
+        ),
+    ):
         expect(patched(name, patch, *words, status=130), ("", "stopped; nothing was made\n"), f"what {name} tells")
     expect(sorted(folder.rglob("*")), files, "files")
 
@@ -508,26 +664,60 @@ def check_names_with_spaces(folder):
     commands, _ = tool(*words)
     mmpkg("init", folder / "back.mmpkg")
     for line in commands.splitlines():
-        run("bash", "-c", f"set -o pipefail; mmpkg() {{ {PROGRAM} \"$@\" --at 0; }}; " + line.replace("FILE", str(folder / "back.mmpkg")))
+        run(
+            "bash",
+            "-c",
+            f'set -o pipefail; mmpkg() {{ {PROGRAM} "$@" --at 0; }}; '
+            + line.replace("FILE", str(folder / "back.mmpkg")),
+        )
     expect_equal(folder / "a.mmpkg", folder / "back.mmpkg")
     (folder / "my list.csv").unlink()
-    expect(tool(*words, status=2)[1], f"{folder}/my kit: is there, and is not overwritten; remove it, or choose another name\n", "what is told")
+    expect(
+        tool(*words, status=2)[1],
+        f"{folder}/my kit: is there, and is not overwritten; remove it, or choose another name\n",
+        "what is told",
+    )
 
 
-AREA = ('{"type":"FeatureCollection","features":[{"type":"Feature","properties":{"name":"x"},'
-        '"geometry":{"type":"Polygon","coordinates":[[[9,50],[9.1,50],[9,50.1],[9,50]]]}}]}')
-POINT = ('{"type":"FeatureCollection","features":[{"type":"Feature","properties":{"name":"x"},'
-         '"geometry":{"type":"Point","coordinates":[10,50]}}]}')
+AREA = (
+    '{"type":"FeatureCollection","features":[{"type":"Feature","properties":{"name":"x"},'
+    '"geometry":{"type":"Polygon","coordinates":[[[9,50],[9.1,50],[9,50.1],[9,50]]]}}]}'
+)
+POINT = (
+    '{"type":"FeatureCollection","features":[{"type":"Feature","properties":{"name":"x"},'
+    '"geometry":{"type":"Point","coordinates":[10,50]}}]}'
+)
 
 
 def geotiff(folder, width, height, system="EPSG:25832", corner=(500_000, 5_600_000), pixel=1):
     """A picture of nine colours as GDAL's users have it: of no whole number of tiles."""
     example = TOP / "examples" / "border"
-    run("gdaldem", "color-relief", "-q", "-nearest_color_entry", example / "picture.asc", example / "colours.txt", folder / "small.tif")
+    run(
+        "gdaldem",
+        "color-relief",
+        "-q",
+        "-nearest_color_entry",
+        example / "picture.asc",
+        example / "colours.txt",
+        folder / "small.tif",
+    )
     left, low = corner
     place = left, low + height * pixel, left + width * pixel, low
-    run("gdal_translate", "-q", "-outsize", width, height, "-r", "nearest", "-a_srs", system, "-a_ullr", *place, folder / "small.tif",
-        folder / "picture.tif")
+    run(
+        "gdal_translate",
+        "-q",
+        "-outsize",
+        width,
+        height,
+        "-r",
+        "nearest",
+        "-a_srs",
+        system,
+        "-a_ullr",
+        *place,
+        folder / "small.tif",
+        folder / "picture.tif",
+    )
     return folder / "picture.tif"
 
 
@@ -570,7 +760,11 @@ def check_bounds_are_kept(folder):
         opened.execute("UPDATE gpkg_contents SET max_x = max_x - 100 WHERE table_name = 'base'")
         opened.commit()
     _, told = tool("import_standard.py", folder / "all.gpkg", folder / "2.csv")
-    expect(untold(told), "note: bounds of base: they don't come in: map_bounds of IN.gpkg tells others, or none\n", "what is told of other bounds")
+    expect(
+        untold(told),
+        "note: bounds of base: they don't come in: map_bounds of IN.gpkg tells others, or none\n",
+        "what is told of other bounds",
+    )
 
 
 def check_without_optional_tables(folder):
@@ -581,7 +775,11 @@ def check_without_optional_tables(folder):
         with contextlib.closing(sqlite3.connect(folder / "in.gpkg")) as opened:
             opened.execute(f"DROP TABLE IF EXISTS {table}")
         tool("import_standard.py", folder / "in.gpkg", folder / f"{table}.csv")
-        expect((folder / f"{table}.csv").read_text(), "table,spots,attributes,Spots\nrow,spots,7,Well,,3\n", f"the list without {table}")
+        expect(
+            (folder / f"{table}.csv").read_text(),
+            "table,spots,attributes,Spots\nrow,spots,7,Well,,3\n",
+            f"the list without {table}",
+        )
     new_package(folder / "b.mmpkg", nine_tiles())
     export(folder / "b.mmpkg", folder / "map.gpkg")
     with contextlib.closing(sqlite3.connect(folder / "map.gpkg")) as opened:
@@ -603,10 +801,25 @@ def check_nothing_is_written_over(folder):
         opened.commit()
     files = {file: content_of(file) for file in sorted(folder.iterdir())}
     for kit in ((), ("--kit", "more", folder / "kit")):
-        words = "import_standard.py", folder / "in.gpkg", folder / "list.csv", *kit, "--into", folder / "a.mmpkg", "--key", "id"
+        words = (
+            "import_standard.py",
+            folder / "in.gpkg",
+            folder / "list.csv",
+            *kit,
+            "--into",
+            folder / "a.mmpkg",
+            "--key",
+            "id",
+        )
         _, told = tool(*words, status=2)
-        lines = [f"{folder / 'a.mmpkg'}: has other {it}" for it in ("media of photos under these numbers: 1", "rows of spots under these numbers: 7 to 8, 11",
-                                                                   "tiles of base under these numbers: 0/1/1")]
+        lines = [
+            f"{folder / 'a.mmpkg'}: has other {it}"
+            for it in (
+                "media of photos under these numbers: 1",
+                "rows of spots under these numbers: 7 to 8, 11",
+                "tiles of base under these numbers: 0/1/1",
+            )
+        ]
         expect(told.splitlines(), [*lines, "nothing was made; --replace writes over them"], "what is told")
         expect({file: content_of(file) for file in sorted(folder.iterdir())}, files, "files")
     commands, told = tool(*words, "--replace")
@@ -624,8 +837,14 @@ def check_nothing_is_written_over(folder):
 def check_numbers_of_a_second_layer(folder):
     """A second layer gets the numbers behind the last with its photos, or those from --first-id on, or keeps its own by --key."""
     layer = "table,spots,attributes,Spots\ntable,photos,media,Photos\nrelation,spots_photos,spots,photos,media\n"
-    new_package(folder / "a.mmpkg", layer + "row,spots,1,Stone,,0\nrow,spots,2,Stone,,0\nmedia,photos,1,a/b,00\nmap,spots_photos,1,1\n")
-    new_package(folder / "b.mmpkg", layer + "row,spots,1,WP 1,,0\nrow,spots,7,WP 2,,0\nmedia,photos,1,a/b,01\nmap,spots_photos,7,1\n")
+    new_package(
+        folder / "a.mmpkg",
+        layer + "row,spots,1,Stone,,0\nrow,spots,2,Stone,,0\nmedia,photos,1,a/b,00\nmap,spots_photos,1,1\n",
+    )
+    new_package(
+        folder / "b.mmpkg",
+        layer + "row,spots,1,WP 1,,0\nrow,spots,7,WP 2,,0\nmedia,photos,1,a/b,01\nmap,spots_photos,7,1\n",
+    )
     export(folder / "b.mmpkg", folder / "in.gpkg")
     stones = mmpkg("show", folder / "a.mmpkg", "spots")
     commands, told = tool("import_standard.py", folder / "in.gpkg", folder / "list.csv", "--into", folder / "a.mmpkg")
@@ -634,21 +853,51 @@ def check_numbers_of_a_second_layer(folder):
     take_in(commands, folder / "a.mmpkg", folder)
     expect(mmpkg("show", folder / "a.mmpkg", "spots"), stones + "row,spots,3,WP 1,,0\nrow,spots,4,WP 2,,0\n", "rows")
     with contextlib.closing(sqlite3.connect(folder / "a.mmpkg")) as opened:
-        expect(opened.execute("SELECT base_id, related_id FROM mm_map ORDER BY base_id").fetchall(), [(1, 1), (4, 2)], "mapping rows")
-    _, told = tool("import_standard.py", folder / "in.gpkg", folder / "over.csv", "--into", folder / "a.mmpkg", "--first-id", 4, status=2)
-    expect(told.splitlines()[0], f"{folder / 'a.mmpkg'}: has other rows of spots under these numbers: 4", "what is told of --first-id")
+        expect(
+            opened.execute("SELECT base_id, related_id FROM mm_map ORDER BY base_id").fetchall(),
+            [(1, 1), (4, 2)],
+            "mapping rows",
+        )
+    _, told = tool(
+        "import_standard.py",
+        folder / "in.gpkg",
+        folder / "over.csv",
+        "--into",
+        folder / "a.mmpkg",
+        "--first-id",
+        4,
+        status=2,
+    )
+    expect(
+        told.splitlines()[0],
+        f"{folder / 'a.mmpkg'}: has other rows of spots under these numbers: 4",
+        "what is told of --first-id",
+    )
     for words in (("--into", folder / "a.mmpkg"), ()):
         tool("import_standard.py", folder / "in.gpkg", folder / f"first_{len(words)}.csv", "--first-id", 101, *words)
         lines = (folder / f"first_{len(words)}.csv").read_text().splitlines()
-        wanted = ["media,photos,101,a/b,01", "row,spots,101,WP 1,,0", "row,spots,102,WP 2,,0", "map,spots_photos,102,101"]
+        wanted = [
+            "media,photos,101,a/b,01",
+            "row,spots,101,WP 1,,0",
+            "row,spots,102,WP 2,,0",
+            "map,spots_photos,102,101",
+        ]
         expect(lines[-4:], wanted, "the list of --first-id")
     tool("import_standard.py", folder / "in.gpkg", folder / "no.csv", "--first-id", 0, status=2)
     new_package(folder / "c.mmpkg", "table,spots,media,Spots\n")
     _, told = tool("import_standard.py", folder / "in.gpkg", folder / "no.csv", "--into", folder / "c.mmpkg", status=2)
-    expect(told, f"{folder / 'c.mmpkg'}: table spots stands there otherwise; --table gives a table another name\n", "what is told of another kind")
+    expect(
+        told,
+        f"{folder / 'c.mmpkg'}: table spots stands there otherwise; --table gives a table another name\n",
+        "what is told of another kind",
+    )
     new_package(folder / "d.mmpkg", f"table,spots,attributes,Spots\nrow,spots,{2**53},Last,,0\n")
     _, told = tool("import_standard.py", folder / "in.gpkg", folder / "no.csv", "--into", folder / "d.mmpkg", status=2)
-    expect(told, "no number is left behind 9007199254740992; --first-id names another to begin with\n", "what is told behind the last number")
+    expect(
+        told,
+        "no number is left behind 9007199254740992; --first-id names another to begin with\n",
+        "what is told behind the last number",
+    )
 
 
 HANDED_OVER = """
@@ -664,11 +913,15 @@ INSERT INTO gpkgext_relations VALUES (1, 'Spots', 'fid', 'photos', 'fid', 'media
 CREATE TABLE spots_photos (base_id INTEGER, related_id INTEGER);
 INSERT INTO spots_photos VALUES (1, 1), (2, 3);
 """
-HANDED_OVER_LEFT_OUT = ["row 3 of spots: its amount 1.5 is no whole number of at most 10^15",
-                        "row 4 of spots: its amount NULL is no whole number of at most 10^15",
-                        "media item 2 of photos: its content type 'image' isn't two words round a /, as image/png is"]
-HANDED_OVER_NOTED = ["note of row 1 of spots, title of row 2 of spots, note of row 2 of spots: it is NULL, and comes in as the empty text",
-                     "media item 1 of photos: its content type 'text/plain; charset=utf-8' comes in as text/plain"]
+HANDED_OVER_LEFT_OUT = [
+    "row 3 of spots: its amount 1.5 is no whole number of at most 10^15",
+    "row 4 of spots: its amount NULL is no whole number of at most 10^15",
+    "media item 2 of photos: its content type 'image' isn't two words round a /, as image/png is",
+]
+HANDED_OVER_NOTED = [
+    "note of row 1 of spots, title of row 2 of spots, note of row 2 of spots: it is NULL, and comes in as the empty text",
+    "media item 1 of photos: its content type 'text/plain; charset=utf-8' comes in as text/plain",
+]
 
 
 def check_what_a_gis_hands_over(folder):
@@ -677,9 +930,11 @@ def check_what_a_gis_hands_over(folder):
     with contextlib.closing(sqlite3.connect(folder / "in.gpkg")) as opened:
         opened.executescript(HANDED_OVER)
     _, told = tool("import_standard.py", folder / "in.gpkg", folder / "none.csv", status=1)
-    for line in ("left out: table 'Basemap': its name is no name of a package, which has small letters, digits and _; "
-                 "--table Basemap=basemap gives it one",
-                 "left out: table 'photos': its key is fid, as GDAL and QGIS call it; --key fid takes it"):
+    for line in (
+        "left out: table 'Basemap': its name is no name of a package, which has small letters, digits and _; "
+        "--table Basemap=basemap gives it one",
+        "left out: table 'photos': its key is fid, as GDAL and QGIS call it; --key fid takes it",
+    ):
         assert line in told.splitlines(), f"{line!r} isn't told: {told}"
     words = "--table", "Basemap=base", "--table", "Spots=spots", "--key", "fid"
     commands, told = tool("import_standard.py", folder / "in.gpkg", folder / "list.csv", *words, status=1)
@@ -688,12 +943,27 @@ def check_what_a_gis_hands_over(folder):
             assert f"{kind}: {line}" in told.splitlines(), f"{line!r} isn't told: {told}"
     mmpkg("init", folder / "a.mmpkg")
     take_in(commands, folder / "a.mmpkg", folder)
-    expect([line.split()[:3] for line in listing(folder / "a.mmpkg")],
-           [["base", "two", "9"], ["map_bounds", "attributes", "1"], ["photos", "media", "2"], ["spots", "attributes", "2"]], "what came in")
+    expect(
+        [line.split()[:3] for line in listing(folder / "a.mmpkg")],
+        [
+            ["base", "two", "9"],
+            ["map_bounds", "attributes", "1"],
+            ["photos", "media", "2"],
+            ["spots", "attributes", "2"],
+        ],
+        "what came in",
+    )
     with contextlib.closing(sqlite3.connect(folder / "a.mmpkg")) as opened:
-        expect(opened.execute("SELECT id, title, note, amount FROM mm_rows WHERE table_name = 'spots'").fetchall(),
-               [(1, "Well", "", 7), (2, "", "", -3)], "rows")
-        expect(opened.execute("SELECT base_id, related_id FROM mm_map ORDER BY base_id").fetchall(), [(1, 1), (2, 3)], "mapping rows")
+        expect(
+            opened.execute("SELECT id, title, note, amount FROM mm_rows WHERE table_name = 'spots'").fetchall(),
+            [(1, "Well", "", 7), (2, "", "", -3)],
+            "rows",
+        )
+        expect(
+            opened.execute("SELECT base_id, related_id FROM mm_map ORDER BY base_id").fetchall(),
+            [(1, 1), (2, 3)],
+            "mapping rows",
+        )
 
 
 def remedy(told, command):
@@ -716,7 +986,10 @@ def rows_in(listed):
 
 def check_remedies(folder):
     """The commands that are told for a map in degrees of arc or of Web Mercator, and for a layer of features, run as they are told."""
-    for system, corner, pixel in (("EPSG:3857", (1_001_875.4, 6_446_275.8), 2.388657133911758), ("EPSG:4326", (9, 50.5), 0.00001)):
+    for system, corner, pixel in (
+        ("EPSG:3857", (1_001_875.4, 6_446_275.8), 2.388657133911758),
+        ("EPSG:4326", (9, 50.5), 0.00001),
+    ):
         where = folder / system[5:]
         where.mkdir()
         standard_of(geotiff(where, 500, 300, system, corner, pixel), where / "in.gpkg", "base")
@@ -737,21 +1010,41 @@ def check_remedies(folder):
 
 # By the name of a file of odd_files.py what its import ends with, and what it tells; all others end with 0.
 ODD = {
-    "any_shape.gpkg": (1, "left out: row 1 of spots: its geometry is no point"), "broken_view.gpkg": (1, "it can't be read: no such table"),
-    "cut.gpkg": (2, "malformed"), "few_matrix_columns.gpkg": (1, "no such column: matrix_width"),
-    "degrees.gpkg": (1, "-t_srs EPSG:25832"), "few_columns.gpkg": (2, "no such column: identifier"),
-    "head.gpkg": (2, "file is not a database"), "lines.gpkg": (1, "a package has no LINESTRING"), "map.mbtiles": (2, "is MBTiles and no GeoPackage"),
-    "map.png": (2, "is a PNG and no GeoPackage"), "map.tif": (2, "is a TIFF and no GeoPackage"), "map.vrt": (2, "is a VRT and no GeoPackage"),
-    "no_geometry_columns.gpkg": (1, "a package has no geometry"), "no_kind.gpkg": (1, "a package has no geometry"),
-    "no_matrix_sets.gpkg": (1, "it has no matrix set"), "no_such_column.gpkg": (1, "a package has no geometry"),
-    "no_system.gpkg": (1, "-s_srs EPSG:4326"), "no_systems.gpkg": (1, "its system 25832 is geographic, or was left out"),
-    "no_table.gpkg": (1, "there is no such table"), "no_texts.gpkg": (1, "left out: table None: its name is no text"),
-    "nulls.gpkg": (1, "coalesce(amount, 0) AS amount"), "odd_extent.gpkg": (1, "isn't whole in micrometres"),
-    "odd_matrices.gpkg": (1, "no matrix was taken"), "odd_relations.gpkg": (1, "left out: relation None"),
-    "odd_systems.gpkg": (1, "left out: system None"), "ok.geojson": (2, "ogr2ogr -f GPKG rows.gpkg"), "ok.sqlite": (2, "ogr2ogr -f GPKG rows.gpkg"),
-    "quotes.gpkg": (1, "its name is no name of a package"), "several.gpkg": (1, "-explodecollections"), "short_relations.gpkg": (2, "no such column"),
-    "south.gpkg": (1, "-t_srs EPSG:32760"), "stones.gpkg": (1, "--columns takes them all"), "table.gpkg": (1, "--columns takes them all"),
-    "two_geometries.gpkg": (1, "--columns takes them all"), "view.gpkg": (1, "left out: table 'more'"),
+    "any_shape.gpkg": (1, "left out: row 1 of spots: its geometry is no point"),
+    "broken_view.gpkg": (1, "it can't be read: no such table"),
+    "cut.gpkg": (2, "malformed"),
+    "few_matrix_columns.gpkg": (1, "no such column: matrix_width"),
+    "degrees.gpkg": (1, "-t_srs EPSG:25832"),
+    "few_columns.gpkg": (2, "no such column: identifier"),
+    "head.gpkg": (2, "file is not a database"),
+    "lines.gpkg": (1, "a package has no LINESTRING"),
+    "map.mbtiles": (2, "is MBTiles and no GeoPackage"),
+    "map.png": (2, "is a PNG and no GeoPackage"),
+    "map.tif": (2, "is a TIFF and no GeoPackage"),
+    "map.vrt": (2, "is a VRT and no GeoPackage"),
+    "no_geometry_columns.gpkg": (1, "a package has no geometry"),
+    "no_kind.gpkg": (1, "a package has no geometry"),
+    "no_matrix_sets.gpkg": (1, "it has no matrix set"),
+    "no_such_column.gpkg": (1, "a package has no geometry"),
+    "no_system.gpkg": (1, "-s_srs EPSG:4326"),
+    "no_systems.gpkg": (1, "its system 25832 is geographic, or was left out"),
+    "no_table.gpkg": (1, "there is no such table"),
+    "no_texts.gpkg": (1, "left out: table None: its name is no text"),
+    "nulls.gpkg": (1, "coalesce(amount, 0) AS amount"),
+    "odd_extent.gpkg": (1, "isn't whole in micrometres"),
+    "odd_matrices.gpkg": (1, "no matrix was taken"),
+    "odd_relations.gpkg": (1, "left out: relation None"),
+    "odd_systems.gpkg": (1, "left out: system None"),
+    "ok.geojson": (2, "ogr2ogr -f GPKG rows.gpkg"),
+    "ok.sqlite": (2, "ogr2ogr -f GPKG rows.gpkg"),
+    "quotes.gpkg": (1, "its name is no name of a package"),
+    "several.gpkg": (1, "-explodecollections"),
+    "short_relations.gpkg": (2, "no such column"),
+    "south.gpkg": (1, "-t_srs EPSG:32760"),
+    "stones.gpkg": (1, "--columns takes them all"),
+    "table.gpkg": (1, "--columns takes them all"),
+    "two_geometries.gpkg": (1, "--columns takes them all"),
+    "view.gpkg": (1, "left out: table 'more'"),
 }
 # By the name of a file the rows that come in behind the command that its import tells.
 BROUGHT = {
@@ -792,24 +1085,38 @@ def check_odd_files(folder):
         expect((folder / f"{file.name}.csv").exists(), status < 2, f"whether {file.name} has a list")
     expect((folder / "few_matrix_columns.gpkg.csv").read_text().count("map"), 0, "lines of a map that can't be read")
     for name in ("ok", "no_extent", "no_extensions", "trigger", "generated", "no_rowid"):
-        expect(rows_in(folder / f"{name}.gpkg.csv")[-1], ["row", "spots", "1", "Oak", "@25832:500000.5/5600000.25 old", "7"], f"the row of {name}")
+        expect(
+            rows_in(folder / f"{name}.gpkg.csv")[-1],
+            ["row", "spots", "1", "Oak", "@25832:500000.5/5600000.25 old", "7"],
+            f"the row of {name}",
+        )
     for name, rows in BROUGHT.items():
         run_remedy(imported(folder / f"{name}.gpkg", folder / f"{name}_none.csv", status=1), folder)
         imported(folder / "rows.gpkg", folder / f"{name}.csv")
-        expect([it[2:] for it in rows_in(folder / f"{name}.csv")], rows, f"rows of {name} behind the command that was told")
+        expect(
+            [it[2:] for it in rows_in(folder / f"{name}.csv")], rows, f"rows of {name} behind the command that was told"
+        )
 
 
 def check_columns_go_in_and_out(folder):
     """With --columns a layer comes in with all its columns, by its own key, and goes out with them, letter by letter."""
     run(python_with_gdal, TOP / "scripts" / "outside" / "odd_files.py", folder)
     with contextlib.closing(sqlite3.connect(folder / "stones.gpkg")) as opened:
-        for (name,) in opened.execute("SELECT name FROM sqlite_master WHERE type = 'trigger' AND tbl_name = 'stones'").fetchall():
+        for (name,) in opened.execute(
+            "SELECT name FROM sqlite_master WHERE type = 'trigger' AND tbl_name = 'stones'"
+        ).fetchall():
             opened.execute(f"DROP TRIGGER {name}")
         opened.execute("UPDATE stones SET fid = fid + 100")
         opened.commit()
     commands, told = tool("import_standard.py", folder / "stones.gpkg", folder / "list.csv", "--columns")
-    expect([it[2:] for it in rows_in(folder / "list.csv")],
-           [["101", "S 1", '@25832:500000.5/5600000.25 height=12.5 kept_by="the ""Post""" day=2026-01-02', "0"], ["102", "", "@25832:1/2", "0"]], "rows")
+    expect(
+        [it[2:] for it in rows_in(folder / "list.csv")],
+        [
+            ["101", "S 1", '@25832:500000.5/5600000.25 height=12.5 kept_by="the ""Post""" day=2026-01-02', "0"],
+            ["102", "", "@25832:1/2", "0"],
+        ],
+        "rows",
+    )
     mmpkg("init", folder / "a.mmpkg")
     take_in(commands, folder / "a.mmpkg", folder)
     mmpkg("run", folder / "a.mmpkg", given=b"row,stones,103,New,@25832:5/6 by hand height=7 x=007 Note=b,2\n")
@@ -817,31 +1124,73 @@ def check_columns_go_in_and_out(folder):
     validate(folder / "out.gpkg")
     run("ogr2ogr", "-f", "CSV", "-lco", "GEOMETRY=AS_XY", folder / "seen.csv", folder / "out.gpkg", "stones")
     with open(folder / "seen.csv", encoding="utf-8", newline="") as it:
-        expect(list(csv.reader(it)), [["X", "Y", "title", "note", "amount", "height", "kept_by", "day", "x", "Note_2"],
-                                      ["500000.5", "5600000.25", "S 1", "", "0", "12.5", 'the "Post"', "2026-01-02", "", ""],
-                                      ["1", "2", "", "", "0", "", "", "", "", ""],
-                                      ["5", "6", "New", "by hand", "2", "7", "", "", "007", "b"]], "columns that GDAL sees")
-    commands, _ = tool("import_standard.py", folder / "out.gpkg", folder / "again.csv", "--columns", "--into", folder / "a.mmpkg", "--key", "id", "--replace")
-    expect([it[2:4] for it in rows_in(folder / "again.csv")], [["101", "S 1"], ["102", ""], ["103", "New"]], "rows that come back to their own")
-    names = shlex.split(re.search("--table (.*) gives it one", tool("import_standard.py", folder / "quotes.gpkg", folder / "none.csv", status=1)[1])[1])
+        expect(
+            list(csv.reader(it)),
+            [
+                ["X", "Y", "title", "note", "amount", "height", "kept_by", "day", "x", "Note_2"],
+                ["500000.5", "5600000.25", "S 1", "", "0", "12.5", 'the "Post"', "2026-01-02", "", ""],
+                ["1", "2", "", "", "0", "", "", "", "", ""],
+                ["5", "6", "New", "by hand", "2", "7", "", "", "007", "b"],
+            ],
+            "columns that GDAL sees",
+        )
+    commands, _ = tool(
+        "import_standard.py",
+        folder / "out.gpkg",
+        folder / "again.csv",
+        "--columns",
+        "--into",
+        folder / "a.mmpkg",
+        "--key",
+        "id",
+        "--replace",
+    )
+    expect(
+        [it[2:4] for it in rows_in(folder / "again.csv")],
+        [["101", "S 1"], ["102", ""], ["103", "New"]],
+        "rows that come back to their own",
+    )
+    names = shlex.split(
+        re.search(
+            "--table (.*) gives it one",
+            tool("import_standard.py", folder / "quotes.gpkg", folder / "none.csv", status=1)[1],
+        )[1]
+    )
     tool("import_standard.py", folder / "quotes.gpkg", folder / "quotes.csv", "--table", *names, "--columns")
-    expect([it[1:] for it in rows_in(folder / "quotes.csv")], [["it_s_x", "1", "a", '@25832:1/2 a__b_=1 select=2.5', "0"]], "odd names of columns")
+    expect(
+        [it[1:] for it in rows_in(folder / "quotes.csv")],
+        [["it_s_x", "1", "a", "@25832:1/2 a__b_=1 select=2.5", "0"]],
+        "odd names of columns",
+    )
     _, told = tool("import_standard.py", folder / "quotes.gpkg", folder / "none_2.csv", "--table", *names, status=1)
     run_remedy(told, folder)
     tool("import_standard.py", folder / "rows.gpkg", folder / "rows.csv")
-    expect([it[1:] for it in rows_in(folder / "rows.csv")], [["it_s_x", "1", "a", "@25832:1/2", "0"]], "the row of the command that was told")
+    expect(
+        [it[1:] for it in rows_in(folder / "rows.csv")],
+        [["it_s_x", "1", "a", "@25832:1/2", "0"]],
+        "the row of the command that was told",
+    )
 
 
-STONES = "Punkt;Höhe;Rechtswert;Hochwert;Art\n101;12,5;565100,25;5933200,5;Grenzstein alt\n102;;565101,25;5933201,5;Münze\n"
-WAYPOINTS = ('<?xml version="1.0"?><gpx version="1.1" creator="x" xmlns="http://www.topografix.com/GPX/1/1">'
-             "<wpt lat='50.5' lon='9.1'><name>WP 1</name><desc>by 'it</desc></wpt></gpx>")
+STONES = (
+    "Punkt;Höhe;Rechtswert;Hochwert;Art\n101;12,5;565100,25;5933200,5;Grenzstein alt\n102;;565101,25;5933201,5;Münze\n"
+)
+WAYPOINTS = (
+    '<?xml version="1.0"?><gpx version="1.1" creator="x" xmlns="http://www.topografix.com/GPX/1/1">'
+    "<wpt lat='50.5' lon='9.1'><name>WP 1</name><desc>by 'it</desc></wpt></gpx>"
+)
 
 
 def check_texts_of_devices(folder):
     """A surveyor's text with semicolons, decimal commas and Latin-1, and waypoints of a GPX, come in behind the command that is told."""
-    wanted = {"stones 1.csv": (STONES.encode("latin1"), ["101", '@25832:565100.25/5933200.5 Höhe=12,5 Art="Grenzstein alt"'],
-                               ["102", '@25832:565101.25/5933201.5 Höhe="" Art=Münze']),
-              "way.gpx": (WAYPOINTS.encode(), ["WP 1", "@25832:507092.105557/5594230.17033 desc=\"by 'it\""])}
+    wanted = {
+        "stones 1.csv": (
+            STONES.encode("latin1"),
+            ["101", '@25832:565100.25/5933200.5 Höhe=12,5 Art="Grenzstein alt"'],
+            ["102", '@25832:565101.25/5933201.5 Höhe="" Art=Münze'],
+        ),
+        "way.gpx": (WAYPOINTS.encode(), ["WP 1", '@25832:507092.105557/5594230.17033 desc="by \'it"']),
+    }
     for name, (data, *rows) in wanted.items():
         (folder / name).write_bytes(data)
         _, told = tool("import_standard.py", folder / name, folder / "none.csv", status=2)
@@ -853,41 +1202,85 @@ def check_texts_of_devices(folder):
 def check_photos_as_files(folder):
     """Photos go out as files that are named by their rows; nothing is overwritten."""
     png = page_map.png_of((1, 2, 3))
-    lines = [["media", "photos", number, content_type, data.hex()] for number, content_type, data in
-             ((2, "image/jpeg", b"\xff\xd8\xff"), (3, "application/pdf", b"%PDF"), (4, "x/y", b"z"))]
-    lines += [["row", "spots", 8, "../Oak/ß", "", 0], ["map", "spots_photos", 7, 2], ["map", "spots_photos", 8, 1], ["map", "spots_photos", 8, 3]]
+    lines = [
+        ["media", "photos", number, content_type, data.hex()]
+        for number, content_type, data in (
+            (2, "image/jpeg", b"\xff\xd8\xff"),
+            (3, "application/pdf", b"%PDF"),
+            (4, "x/y", b"z"),
+        )
+    ]
+    lines += [
+        ["row", "spots", 8, "../Oak/ß", "", 0],
+        ["map", "spots_photos", 7, 2],
+        ["map", "spots_photos", 8, 1],
+        ["map", "spots_photos", 8, 3],
+    ]
     new_package(folder / "a.mmpkg", nine_tiles() + "".join(map(record, lines)))
     words = "export_standard.py", folder / "a.mmpkg", folder / "out.gpkg", "--photos", folder / "my photos"
     tool(*words)
-    found = {str(it.relative_to(folder / "my photos")): it.read_bytes() for it in (folder / "my photos").rglob("*") if it.is_file()}
+    found = {
+        str(it.relative_to(folder / "my photos")): it.read_bytes()
+        for it in (folder / "my photos").rglob("*")
+        if it.is_file()
+    }
     listed = found.pop("photos.csv").decode().splitlines()
-    expect(found, {"spots/Well-7.png": png, "spots/Well-7_2.jpg": b"\xff\xd8\xff", "spots/Oak_ß-8.png": png, "spots/Oak_ß-8_2.pdf": b"%PDF",
-                   "photos/row-4.bin": b"z"}, "files")
+    expect(
+        found,
+        {
+            "spots/Well-7.png": png,
+            "spots/Well-7_2.jpg": b"\xff\xd8\xff",
+            "spots/Oak_ß-8.png": png,
+            "spots/Oak_ß-8_2.pdf": b"%PDF",
+            "photos/row-4.bin": b"z",
+        },
+        "files",
+    )
     expect((listed[1], len(listed)), ("spots/Well-7.png,spots,7,Well,photos,1,image/png", 6), "the list")
     (folder / "out.gpkg").unlink()
-    expect(tool(*words, status=2)[1], f"{folder}/my photos: is there, and is not overwritten; remove it, or choose another name\n", "what is told")
+    expect(
+        tool(*words, status=2)[1],
+        f"{folder}/my photos: is there, and is not overwritten; remove it, or choose another name\n",
+        "what is told",
+    )
     expect((folder / "out.gpkg").exists(), False, "whether OUT was made")
 
 
 def check_slips_are_said(folder):
     """Rows whose place is none, and rows whose place is on no map, are named, and no others."""
-    notes = ["@25832:100,5/50", "@25832:100/50weg", "@5600100/100", "@25832:0/192", "@100.5/50", "a@b.de", "see @home", ""]
+    notes = [
+        "@25832:100,5/50",
+        "@25832:100/50weg",
+        "@5600100/100",
+        "@25832:0/192",
+        "@100.5/50",
+        "a@b.de",
+        "see @home",
+        "",
+    ]
     lines = [["row", "spots", 11 + number, "x", note, 0] for number, note in enumerate(notes)]
     new_package(folder / "a.mmpkg", nine_tiles() + "".join(map(record, lines)))
     _, told = tool("export_standard.py", folder / "a.mmpkg", folder / "out.gpkg")
-    wanted = ["note: row 11 of spots, row 12 of spots, row 17 of spots: a word of its note begins with @, and is no place",
-              "note: row 13 of spots: its place is on no map"]
+    wanted = [
+        "note: row 11 of spots, row 12 of spots, row 17 of spots: a word of its note begins with @, and is no place",
+        "note: row 13 of spots: its place is on no map",
+    ]
     expect(sorted(told.splitlines()), wanted, "what is told")
     lines = [["row", "spots", 100 + number, "x", "@x", 0] for number in range(30)]
     mmpkg("run", folder / "a.mmpkg", given="".join(map(record, lines)).encode())
-    assert ", row 106 of spots and 23 more: a word" in tool("export_standard.py", folder / "a.mmpkg", folder / "out_2.gpkg")[1], "how many there are"
+    assert (
+        ", row 106 of spots and 23 more: a word"
+        in tool("export_standard.py", folder / "a.mmpkg", folder / "out_2.gpkg")[1]
+    ), "how many there are"
 
 
 PLACES = [(1, "Spring", "@25832:500000.5/5600000.25 by the road", 3), (2, "Gate", "", 0), (3, "Oak", "@25832:-7/0.000001", -5),
           (4, "Plan", "@7:10/20 of the plan", 0), (5, "Late", "seen @500100/5600100 by", 1), (6, "No", "@25832:1,5/2 @x/y a@1/2", 0),
           (2**53, "Far", "@25832:999999999.999999/-999999999.999999 \"x\"\nüß", 10**15)]  # fmt: skip
-SLIPS = ("row 1 of spots, row 3 of spots, row 4 of spots, row 5 of spots, row 9007199254740992 of spots: its place is on no map",
-         "row 6 of spots: a word of its note begins with @, and is no place")
+SLIPS = (
+    "row 1 of spots, row 3 of spots, row 4 of spots, row 5 of spots, row 9007199254740992 of spots: its place is on no map",
+    "row 6 of spots: a word of its note begins with @, and is no place",
+)
 
 
 PAGE_AND_BOUNDS = """table,viewer,media,Map viewer
@@ -935,26 +1328,44 @@ def check_what_only_a_package_has_a_use_for(folder):
 def points_package(file):
     """A map in UTM, a plan's system, rows at places, and photos."""
     lines = [["srs", 7, "plan", "NONE", 7, "metres", ""], *(["row", "spots", *row] for row in PLACES)]
-    new_package(file, nine_tiles() + "".join(map(record, [*lines, ["map", "spots_photos", 1, 1], ["table", "bare", "attributes", "Bare"]])))
+    new_package(
+        file,
+        nine_tiles()
+        + "".join(map(record, [*lines, ["map", "spots_photos", 1, 1], ["table", "bare", "attributes", "Bare"]])),
+    )
 
 
 def check_points_go_out_and_in(folder):
     """Rows go out as points at their places with their photos, and come in letter by letter but for where a place stood in its note."""
     points_package(folder / "a.mmpkg")
     _, told = tool("export_standard.py", folder / "a.mmpkg", folder / "out.gpkg", "--points", "spots", "bare")
-    expect(sorted(told.splitlines(keepends=True)), [f"note: {SLIPS[0]}\n",
-           "note: row 4 of spots: its place is of system 7; it stays in its note\n", f"note: {SLIPS[1]}\n",
-           "note: table bare: no note of it tells a place, so it is no layer of points\n"], "what is told")
+    expect(
+        sorted(told.splitlines(keepends=True)),
+        [
+            f"note: {SLIPS[0]}\n",
+            "note: row 4 of spots: its place is of system 7; it stays in its note\n",
+            f"note: {SLIPS[1]}\n",
+            "note: table bare: no note of it tells a place, so it is no layer of points\n",
+        ],
+        "what is told",
+    )
     validate(folder / "out.gpkg")
     run("ogr2ogr", "-f", "CSV", "-lco", "GEOMETRY=AS_XY", folder / "seen.csv", folder / "out.gpkg", "spots")
     with open(folder / "seen.csv", encoding="utf-8", newline="") as it:
-        seen = {row["title"]: (row["X"] and float(row["X"]), row["Y"] and float(row["Y"]), row["note"]) for row in csv.DictReader(it)}
+        seen = {
+            row["title"]: (row["X"] and float(row["X"]), row["Y"] and float(row["Y"]), row["note"])
+            for row in csv.DictReader(it)
+        }
     expect(seen, {"Spring": (500000.5, 5600000.25, "by the road"), "Gate": ("", "", ""), "Oak": (-7, 0.000001, ""),
                   "Plan": ("", "", "@7:10/20 of the plan"), "Well": ("", "", "by the road, north"), "Late": (500100, 5600100, "seen by"),
                   "No": ("", "", "@25832:1,5/2 @x/y a@1/2"),
                   "Far": (999999999.999999, -999999999.999999, '"x"\nüß')}, "points by GDAL")  # fmt: skip
     assert "ETRS89 / UTM zone 32N" in run("ogrinfo", "-so", folder / "out.gpkg", "spots")[0], "the layer's system"
-    expect(run(python_with_gdal, "-c", RELATIONSHIPS, folder / "out.gpkg")[0], "spots photos spots_photos media\n", "relations by GDAL")
+    expect(
+        run(python_with_gdal, "-c", RELATIONSHIPS, folder / "out.gpkg")[0],
+        "spots photos spots_photos media\n",
+        "relations by GDAL",
+    )
     commands, told = tool("import_standard.py", folder / "out.gpkg", folder / "list.csv")
     expect(untold(told), "", "what the import tells")
     mmpkg("init", folder / "back.mmpkg")
@@ -991,10 +1402,16 @@ def check_places_of_a_plan(folder):
     expect(lines, ["row,spots,1,Oak,@-1:500.5/600.25 old,0", "row,spots,2,Ash,@-1:5/6 tall,0"], "rows that come in")
     with contextlib.closing(sqlite3.connect(folder / "out.gpkg")) as opened:
         for number, east in ((1, float("inf")), (2, 999_999_999.9999998)):
-            opened.execute("UPDATE spots SET geom = ? WHERE id = ?", (points.geometry_of(points.Place(-1, east, 5)), number))
+            opened.execute(
+                "UPDATE spots SET geom = ? WHERE id = ?", (points.geometry_of(points.Place(-1, east, 5)), number)
+            )
         opened.commit()
     _, told = tool("import_standard.py", folder / "out.gpkg", folder / "list_2.csv", "--all-zooms", status=1)
-    expect(untold(told).splitlines(), [f"left out: row {it} of spots: its place is outside the limits" for it in (1, 2)], "what is named")
+    expect(
+        untold(told).splitlines(),
+        [f"left out: row {it} of spots: its place is outside the limits" for it in (1, 2)],
+        "what is named",
+    )
 
 
 def check_points_of_other_programs(folder):
@@ -1003,14 +1420,19 @@ def check_points_of_other_programs(folder):
     tool("export_standard.py", folder / "a.mmpkg", folder / "out.gpkg", "--points", "spots")
     with contextlib.closing(sqlite3.connect(folder / "out.gpkg")) as opened:
         opened.executescript(BY_A_GIS)
-        opened.executemany("UPDATE spots SET shape = ? WHERE id = ?", [(bytes.fromhex(it), number) for number, it in SHAPES.items()])
+        opened.executemany(
+            "UPDATE spots SET shape = ? WHERE id = ?", [(bytes.fromhex(it), number) for number, it in SHAPES.items()]
+        )
         opened.commit()
     _, told = tool("import_standard.py", folder / "out.gpkg", folder / "list.csv", status=1)
     named = [line for line in told.splitlines() if "row " in line]
     expect(named, [f"left out: row {it} of spots: its geometry is no point" for it in (4, 5)], "what is named")
     lines = (folder / "list.csv").read_text().splitlines()
-    expect([line for line in lines if line.startswith("row,spots,")][:3],
-           ["row,spots,1,Spring,by the road,3", "row,spots,2,Gate,@25832:1/2,0", "row,spots,3,Oak,@25832:1/2,-5"], "the rows")
+    expect(
+        [line for line in lines if line.startswith("row,spots,")][:3],
+        ["row,spots,1,Spring,by the road,3", "row,spots,2,Gate,@25832:1/2,0", "row,spots,3,Oak,@25832:1/2,-5"],
+        "the rows",
+    )
 
 
 def check_what_gdal_puts_in(folder):
@@ -1022,7 +1444,11 @@ def check_what_gdal_puts_in(folder):
     mmpkg("check", folder / "trap.gpkg", status=3)
     trap = (folder / "trap.gpkg").read_bytes()
     _, told = tool("repair_gis.py", folder / "trap.gpkg", folder / "back.mmpkg")
-    for line in ("taken out: table points", "taken out: table rtree_points_geom", "taken out: 1 of the rows of gpkg_contents"):
+    for line in (
+        "taken out: table points",
+        "taken out: table rtree_points_geom",
+        "taken out: 1 of the rows of gpkg_contents",
+    ):
         assert line in told.splitlines(), f"{line!r} isn't told: {told}"
     expect((folder / "trap.gpkg").read_bytes(), trap, "the file that was mended")
     expect_equal(folder / "a.mmpkg", folder / "back.mmpkg")
@@ -1038,8 +1464,11 @@ def check_what_can_not_be_mended(folder):
     with contextlib.closing(sqlite3.connect(folder / "other.mmpkg")) as opened:
         opened.execute("CREATE TABLE other (id INTEGER)")
     files = sorted(folder.iterdir())
-    for name, line, status in (("a", "what a package doesn't have is out, and the rest is still rule Q16: go back to a copy", 4),
-                               ("other", "has no table mm_profile, so it never was a package", 4), ("none", "is no file", 2)):
+    for name, line, status in (
+        ("a", "what a package doesn't have is out, and the rest is still rule Q16: go back to a copy", 4),
+        ("other", "has no table mm_profile, so it never was a package", 4),
+        ("none", "is no file", 2),
+    ):
         _, told = tool("repair_gis.py", folder / f"{name}.mmpkg", folder / "back.mmpkg", status=status)
         expect(told.splitlines()[-1], f"{folder / name}.mmpkg: {line}", f"what is told of {name}")
     tool("repair_gis.py", folder / "a.mmpkg", folder / "back.gpkg", status=2)
@@ -1050,13 +1479,36 @@ def check_what_can_not_be_mended(folder):
 def check_kit_of_gdal2tiles(folder):
     """The tiles that gdal2tiles.py cuts come in as a kit and show their colours in their places."""
     example = TOP / "examples" / "border"
-    run("gdaldem", "color-relief", "-q", "-nearest_color_entry", example / "picture.asc", example / "colours.txt", folder / "small.tif")
-    run("gdal_translate", "-q", "-of", "PNG", "-outsize", 768, 768, "-r", "nearest", folder / "small.tif", folder / "all.png")
+    run(
+        "gdaldem",
+        "color-relief",
+        "-q",
+        "-nearest_color_entry",
+        example / "picture.asc",
+        example / "colours.txt",
+        folder / "small.tif",
+    )
+    run(
+        "gdal_translate",
+        "-q",
+        "-of",
+        "PNG",
+        "-outsize",
+        768,
+        768,
+        "-r",
+        "nearest",
+        folder / "small.tif",
+        folder / "all.png",
+    )
     run("gdal2tiles.py", "-q", "--profile=raster", "--xyz", "-w", "none", "-z", 2, folder / "all.png", folder / "tiles")
     (folder / "tiles" / "about.txt").write_text("no tile")
     commands, told = tool("make_kit.py", folder / "tiles", "base", "first", folder / "kit", status=1)
     expect(told, "left out: about.txt: it is no tile Z/C/R.png, .jpg or .webp\n", "what is told")
-    layout = page_map.records().splitlines()[0] + "\npyramid,base,Base,25832,0,0,{0},{0},two\nmatrix,base,2,3,3,256,256,{1},{1}\n"
+    layout = (
+        page_map.records().splitlines()[0]
+        + "\npyramid,base,Base,25832,0,0,{0},{0},two\nmatrix,base,2,3,3,256,256,{1},{1}\n"
+    )
     new_package(folder / "a.mmpkg", layout.format(768 * UNITS_PER_METRE, UNITS_PER_METRE) + "edition,first\n")
     take_in(commands, folder / "a.mmpkg", folder)
     export(folder / "a.mmpkg", folder / "out.gpkg")
@@ -1084,14 +1536,26 @@ def check_kits_of_many_tiles(folder):
     for row in range(KIT_PIECES + 1):
         (folder / "tiles" / "0" / "0" / f"{row}.png").write_bytes(tile)
     commands, _ = tool("make_kit.py", folder / "tiles", "base", "first", folder / "kit")
-    expect([line.split()[1] for line in commands.splitlines()], ["kit", "publish,first", "kit", "publish,first_2"], "commands")
+    expect(
+        [line.split()[1] for line in commands.splitlines()],
+        ["kit", "publish,first", "kit", "publish,first_2"],
+        "commands",
+    )
     lists = [(folder / name / "kit.csv").read_text().splitlines() for name in ("kit", "kit_2")]
     expect([len(lines) for lines in lists], [KIT_PIECES, 1], "pieces")
-    expect([lists[0][-1], lists[1][0]], ["4096,tile,base,0,0,4095,base-0-0-4095.png", "1,tile,base,0,0,4096,base-0-0-4096.png"], "the last pieces")
+    expect(
+        [lists[0][-1], lists[1][0]],
+        ["4096,tile,base,0,0,4095,base-0-0-4095.png", "1,tile,base,0,0,4096,base-0-0-4096.png"],
+        "the last pieces",
+    )
     layout = f"pyramid,base,Base,-1,0,0,{64 * UNITS_PER_METRE},{64 * UNITS_PER_METRE * (KIT_PIECES + 1)},two\nmatrix,base,0,1,{KIT_PIECES + 1},64,64,{UNITS_PER_METRE},{UNITS_PER_METRE}\n"
     new_package(folder / "a.mmpkg", layout + "edition,first\nedition,first_2\n")
     take_in("\n".join(commands.splitlines()[2:]), folder / "a.mmpkg", folder)
-    expect(listing(folder / "a.mmpkg"), ["base                     two                 1 1970-01-01T00:00:00.000Z Base"], "the package")
+    expect(
+        listing(folder / "a.mmpkg"),
+        ["base                     two                 1 1970-01-01T00:00:00.000Z Base"],
+        "the package",
+    )
 
 
 def main():

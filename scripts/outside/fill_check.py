@@ -112,7 +112,9 @@ def check_a_geotiff(folder):
     said, told = fill(file, picture)
     expect(told, "", "what is told")
     expect(said.splitlines(), [said.splitlines()[0], f"next: {TOP / 'tools' / 'crew.py'} '{file}'"], "the last line")
-    assert said.startswith("picture: 44 tiles, ") and said.splitlines()[0].endswith("; 4 zooms up to 1 m a pixel, in EPSG:25832"), said
+    assert said.startswith("picture: 44 tiles, ") and said.splitlines()[0].endswith(
+        "; 4 zooms up to 1 m a pixel, in EPSG:25832"
+    ), said
     out = exported(file, folder)
     validate(out)
     assert "Size is 1500, 1100" in run("gdalinfo", out)[0], "the size by GDAL"
@@ -127,9 +129,13 @@ def check_a_geotiff(folder):
 
 def check_other_systems(folder):
     """Maps in Web Mercator, in degrees, in thirds of a metre and on the other side of the earth lie where they should, in metres."""
-    cases = {"mercator": ("EPSG:3857", (1_001_875.4, 6_446_275.8), 2.5, "EPSG:25832"), "degrees": ("EPSG:4326", (9, 50.5), 0.00002, "EPSG:25832"),
-             "thirds": ("EPSG:25833", (300_000, 5_600_000), 1 / 3, "EPSG:25833"), "south": ("EPSG:4326", (174.5, -41.3), 0.00002, "EPSG:32760"),
-             "named": ("EPSG:4326", (7.5, 46.9), 0.00002, "EPSG:2056")}
+    cases = {
+        "mercator": ("EPSG:3857", (1_001_875.4, 6_446_275.8), 2.5, "EPSG:25832"),
+        "degrees": ("EPSG:4326", (9, 50.5), 0.00002, "EPSG:25832"),
+        "thirds": ("EPSG:25833", (300_000, 5_600_000), 1 / 3, "EPSG:25833"),
+        "south": ("EPSG:4326", (174.5, -41.3), 0.00002, "EPSG:32760"),
+        "named": ("EPSG:4326", (7.5, 46.9), 0.00002, "EPSG:2056"),
+    }
     file = folder / "a.mmpkg"
     for name, (system, corner, pixel, target) in cases.items():
         (folder / name).mkdir()
@@ -150,11 +156,40 @@ def check_tiles_of_others(folder):
     picture = geotiff(folder, 700, 500)
     run("gdal_translate", "-q", "-of", "MBTILES", picture, folder / "map.mbtiles")
     standard_of(picture, folder / "in.gpkg", "Base map")
-    for name, words in (("plane tms", ["--profile=raster"]), ("tms", ["--profile=mercator"]), ("xyz", ["--profile=mercator", "--xyz"])):
-        run("gdal2tiles.py", "-q", *words, "-w", "none", "-z", "0-2" if "plane" in name else "14-16", picture, folder / name)
+    for name, words in (
+        ("plane tms", ["--profile=raster"]),
+        ("tms", ["--profile=mercator"]),
+        ("xyz", ["--profile=mercator", "--xyz"]),
+    ):
+        run(
+            "gdal2tiles.py",
+            "-q",
+            *words,
+            "-w",
+            "none",
+            "-z",
+            "0-2" if "plane" in name else "14-16",
+            picture,
+            folder / name,
+        )
     shutil.copytree(folder / "xyz", folder / "jpeg")
     for it in (folder / "jpeg").rglob("*.png"):
-        run("gdal_translate", "-q", "-of", "JPEG", "-co", "QUALITY=100", "-b", 1, "-b", 2, "-b", 3, it, it.with_suffix(".jpg"))
+        run(
+            "gdal_translate",
+            "-q",
+            "-of",
+            "JPEG",
+            "-co",
+            "QUALITY=100",
+            "-b",
+            1,
+            "-b",
+            2,
+            "-b",
+            3,
+            it,
+            it.with_suffix(".jpg"),
+        )
         it.unlink()
     file = folder / "a.mmpkg"
     for source in ("map.mbtiles", "plane tms", "tms", "xyz", "jpeg"):
@@ -179,7 +214,11 @@ def check_a_photo_with_clear_ground(folder):
     expect((0, 0) in finest, False, "whether a clear tile is there")
     partly = [(0, 1), (1, 0), (1, 1)]
     expect({finest[it] for it in partly}, {b"\x89PNG"}, "tiles that are clear in part")
-    expect(collections.Counter(kind[:3] for place, kind in finest.items() if place not in partly), {b"\xff\xd8\xff": 12}, "tiles that are opaque")
+    expect(
+        collections.Counter(kind[:3] for place, kind in finest.items() if place not in partly),
+        {b"\xff\xd8\xff": 12},
+        "tiles that are opaque",
+    )
     fill(folder / "b.mmpkg", folder / "photo.tif", "--format", "png")
     expect({it[:4] for it in tiles_of(folder / "b.mmpkg", "photo").values()}, {b"\x89PNG"}, "tiles with --format png")
 
@@ -187,7 +226,9 @@ def check_a_photo_with_clear_ground(folder):
 def killed(file, source, size):
     """Begins to fill a package, and kills that when the journal is as large; answers whether it was still on its way."""
     before, until = size_of_journal(file), time.monotonic() + PATIENCE
-    with subprocess.Popen([FILL, file, source], stdout=subprocess.DEVNULL, env={**os.environ, "MMPKG": PROGRAM}) as running:
+    with subprocess.Popen(
+        [FILL, file, source], stdout=subprocess.DEVNULL, env={**os.environ, "MMPKG": PROGRAM}
+    ) as running:
         while running.poll() is None and not (size_of_journal(file) >= size and size_of_journal(file) != before):
             assert time.monotonic() < until, "it takes too long"
             time.sleep(0.01)
@@ -211,7 +252,11 @@ def check_it_goes_on(folder):
     wait_until_free(folder / "b.mmpkg")
     expect(mmpkg("check", folder / "b.mmpkg"), "package ok\n", "mmpkg check behind the kills")
     stands = tiles_of(folder / "b.mmpkg", "photo")
-    expect({place: wanted.get(place) == data for place, data in stands.items() if wanted.get(place) != data}, {}, "tiles that stand otherwise")
+    expect(
+        {place: wanted.get(place) == data for place, data in stands.items() if wanted.get(place) != data},
+        {},
+        "tiles that stand otherwise",
+    )
     said, _ = fill(folder / "b.mmpkg", folder / "photo.tif")
     missing = len(wanted) - len(stands)
     print(f"    {sum(kills)} of {len(kills)} kills on its way; {missing} of {len(wanted)} tiles were missing then")
@@ -239,7 +284,10 @@ def check_a_second_map(folder):
         assert [name, "two"] in listed, f"{name} isn't there: {listed}"
     expect(mmpkg("show", folder / "a.mmpkg", "spots"), shown, "rows")
     before = border_check.rows_of(folder / "a.mmpkg")
-    for table, why in (("base", "pyramid base stands there otherwise"), ("spots", "pyramid spots stands there otherwise")):
+    for table, why in (
+        ("base", "pyramid base stands there otherwise"),
+        ("spots", "pyramid spots stands there otherwise"),
+    ):
         _, told = fill(folder / "a.mmpkg", picture, "--table", table, status=2)
         assert told.startswith(f"{folder / 'a.mmpkg'}: {why}; --table gives a table another name"), told
     expect(border_check.rows_of(folder / "a.mmpkg"), before, "rows of the package")
@@ -253,27 +301,62 @@ def check_what_is_no_map(folder):
     run("gdal_translate", "-q", "-of", "PNG", "-co", "WORLDFILE=NO", picture, folder / "bare.png")
     (folder / "bare.png.aux.xml").unlink(missing_ok=True)
     for name in ("one", "two"):
-        run("gdal_translate", "-q", "-of", "GPKG", "-co", f"RASTER_TABLE={name}", "-co", "APPEND_SUBDATASET=YES", picture, folder / "several.gpkg")
+        run(
+            "gdal_translate",
+            "-q",
+            "-of",
+            "GPKG",
+            "-co",
+            f"RASTER_TABLE={name}",
+            "-co",
+            "APPEND_SUBDATASET=YES",
+            picture,
+            folder / "several.gpkg",
+        )
     run("gdal_translate", "-q", "-a_srs", "EPSG:4326", "-a_ullr", -180, 85, 180, -85, picture, folder / "world.tif")
     (folder / "notes.txt").write_text("ten bytes\n")
     (folder / "empty").mkdir()
     (folder / "area.json").write_text(border_check.AREA)
     (folder / "other.mmpkg").write_bytes(b"no package\n")
     files = sorted(folder.iterdir())
-    cases = [("deep.tif", "", "its pixels are UInt16"), ("bare.png", "", "tells no place"), ("several.gpkg", "", "has several maps; name one: GPKG:"),
-             ("notes.txt", "", "GDAL opens no map of it"), ("empty", "", "has no tile Z/C/R.png"), ("area.json", "", "GDAL opens no map of it"),
-             ("none.tif", "", "GDAL opens no map of it"), ("world.tif", "", "it is wider than 15 degrees"),
-             ("picture.tif", "--system 4326", "is no system in metres"),
-             ("picture.tif", "--system 99999", "EPSG has no system 99999"), ("picture.tif", "--table Base", "'Base' is no name of a package"),
-             ("picture.tif", "--system 0", "--system: is no number")]
-    told = run(border_check.python_with_gdal, "-B", "-c", REFUSED, TOP / "tools", folder, *(f"{source} {words}" for source, words, _ in cases))[0].splitlines()
+    cases = [
+        ("deep.tif", "", "its pixels are UInt16"),
+        ("bare.png", "", "tells no place"),
+        ("several.gpkg", "", "has several maps; name one: GPKG:"),
+        ("notes.txt", "", "GDAL opens no map of it"),
+        ("empty", "", "has no tile Z/C/R.png"),
+        ("area.json", "", "GDAL opens no map of it"),
+        ("none.tif", "", "GDAL opens no map of it"),
+        ("world.tif", "", "it is wider than 15 degrees"),
+        ("picture.tif", "--system 4326", "is no system in metres"),
+        ("picture.tif", "--system 99999", "EPSG has no system 99999"),
+        ("picture.tif", "--table Base", "'Base' is no name of a package"),
+        ("picture.tif", "--system 0", "--system: is no number"),
+    ]
+    told = run(
+        border_check.python_with_gdal,
+        "-B",
+        "-c",
+        REFUSED,
+        TOP / "tools",
+        folder,
+        *(f"{source} {words}" for source, words, _ in cases),
+    )[0].splitlines()
     for (source, _, words), line in zip(cases, told, strict=True):
         assert words in line, f"{words!r} isn't told of {source}: {line}"
     expect(sorted(folder.iterdir()), files, "files")
-    expect(fill(folder / "other.mmpkg", picture, status=4)[1], f"{folder / 'other.mmpkg'}: is no package\n", "what is told of no package")
+    expect(
+        fill(folder / "other.mmpkg", picture, status=4)[1],
+        f"{folder / 'other.mmpkg'}: is no package\n",
+        "what is told of no package",
+    )
     code = f"import sys; sys.path.insert(0, {str(TOP / 'tools')!r}); import gdal_python, border\ngdal_python.MODULES = 'none'\n"
     code += "gdal_python.importlib.util.find_spec = lambda _: None\nborder.run_tool(gdal_python.go_on_with_gdal)"
-    expect(run(sys.executable, "-B", "-c", code, status=2)[1], "GDAL's modules for Python aren't there: apt-get install python3-gdal\n", "without GDAL")
+    expect(
+        run(sys.executable, "-B", "-c", code, status=2)[1],
+        "GDAL's modules for Python aren't there: apt-get install python3-gdal\n",
+        "without GDAL",
+    )
 
 
 def check_the_other_tools_tell_it(folder):
@@ -285,11 +368,24 @@ def check_the_other_tools_tell_it(folder):
         _, told = tool("make_kit.py", folder / source, "base", "first", folder / "kit", status=2)
         assert f"fill.py FILE {folder / source} " in told, f"of {source} is told: {told}"
     (folder / "xyz" / "0" / "0").mkdir(parents=True)
-    for name, data in (("0.jpg", b"\xff\xd8\xff"), ("1.jpeg", b"\xff\xd8\xff1"), ("2.webp", b"RIFF1234WEBP"), ("3.png", b"\x89PNG")):
+    for name, data in (
+        ("0.jpg", b"\xff\xd8\xff"),
+        ("1.jpeg", b"\xff\xd8\xff1"),
+        ("2.webp", b"RIFF1234WEBP"),
+        ("3.png", b"\x89PNG"),
+    ):
         (folder / "xyz" / "0" / "0" / name).write_bytes(data)
     tool("make_kit.py", folder / "xyz", "base", "first", folder / "kit")
-    expect((folder / "kit" / "kit.csv").read_text().splitlines(),
-           ["1,tile,base,0,0,0,base-0-0-0.jpg", "2,tile,base,0,0,1,base-0-0-1.jpg", "3,tile,base,0,0,2,base-0-0-2.webp", "4,tile,base,0,0,3,base-0-0-3.png"], "the kit")
+    expect(
+        (folder / "kit" / "kit.csv").read_text().splitlines(),
+        [
+            "1,tile,base,0,0,0,base-0-0-0.jpg",
+            "2,tile,base,0,0,1,base-0-0-1.jpg",
+            "3,tile,base,0,0,2,base-0-0-2.webp",
+            "4,tile,base,0,0,3,base-0-0-3.png",
+        ],
+        "the kit",
+    )
     (folder / "xyz" / "0" / "0" / "0.png").write_bytes(b"\x89PNG")
     _, told = tool("make_kit.py", folder / "xyz", "base", "first", folder / "kit_2", status=1)
     expect(told, "left out: 0/0/0.png: 0/0/0.jpg is the same tile\n", "what is told of two files of one tile")

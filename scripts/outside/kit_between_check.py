@@ -44,7 +44,7 @@ CHANGES = {
     "media-drop": 2, "relation": 3, "relation-drop": 1, "map": 5, "map-drop": 2, "edition": 1, "stage": 2, "publish": 1, "remake": 2,
 }  # fmt: skip
 NAMES = "a", "b", "c", "d", "e", "f", "g", "h"
-IDENTIFIERS = "One", "Two, \"2\"", "Drei", "Vier ü", "Five", "Six", "Seven"
+IDENTIFIERS = "One", 'Two, "2"', "Drei", "Vier ü", "Five", "Six", "Seven"
 BYTES = b"\x89PNG\r\n", b"\xff\xd8\xff\xe0", b"RIFF....WEBP", b"\0", b"x" * 5000
 SPANS = 256, 1024
 
@@ -68,7 +68,7 @@ class Neighbour(Author):
         return self.pick([it for it in IDENTIFIERS if it not in used] or IDENTIFIERS)
 
     def srs(self):
-        return [self.pick("1234"), self.pick("ab"), "EPSG", "1", "a\n\"grid\"", self.pick(("", ","))]
+        return [self.pick("1234"), self.pick("ab"), "EPSG", "1", 'a\n"grid"', self.pick(("", ","))]
 
     def side(self):
         least = self.pick((0, 1000))
@@ -82,7 +82,9 @@ class Neighbour(Author):
         table = self.pick([*self.package.tables, "w"])
         if table not in self.package.tables:
             return []
-        records_of = [["relation-drop", name] for name, it in self.package.relations.items() if table in it[:2]] + [["drop", table]]
+        records_of = [["relation-drop", name] for name, it in self.package.relations.items() if table in it[:2]] + [
+            ["drop", table]
+        ]
         kind = self.pick(("attributes", "media"))
         if self.random.random() < 0.3 and not self.package.is_pyramid(table):
             kind = self.package.kind(table)
@@ -215,11 +217,18 @@ def renumbered(after, before, other, out):
     numbers = {}
     if (out / "renumbered.csv").exists():
         with open(out / "renumbered.csv", newline="", encoding="utf-8") as opened:
-            numbers = {("item", table, int(old)): ("item", table, int(new)) for _, table, old, new in list(csv.reader(opened))[1:]}
-    collide = {key for key in after if key[0] == "item" and key not in before and other.get(key, after[key]) != after[key]}
+            numbers = {
+                ("item", table, int(old)): ("item", table, int(new))
+                for _, table, old, new in list(csv.reader(opened))[1:]
+            }
+    collide = {
+        key for key in after if key[0] == "item" and key not in before and other.get(key, after[key]) != after[key]
+    }
     wanted = {key for key in collide if key[2] < LEAST_OF_PAGE}
     expect(numbers.keys(), wanted, "what is renumbered")
-    expect([key for key in numbers.values() if key in after or key in before or key in other], [], "numbers that are taken")
+    expect(
+        [key for key in numbers.values() if key in after or key in before or key in other], [], "numbers that are taken"
+    )
     expect(len(set(numbers.values())), len(numbers), "new numbers")
     return {with_numbers(key, value, numbers): value for key, value in after.items()}
 
@@ -237,28 +246,46 @@ def expect_theirs(out, told, target, after, result, conflicts):
     expect(bool(commands), (out / "conflicts").exists(), "whether there is a kit of conflicts")
     settled = set()
     for line in commands:
-        run("bash", "-c", f"set -o pipefail; mmpkg() {{ {PROGRAM} \"$@\" --at 0; }}; " + line.replace("FILE", str(target.file)))
+        run(
+            "bash",
+            "-c",
+            f'set -o pipefail; mmpkg() {{ {PROGRAM} "$@" --at 0; }}; ' + line.replace("FILE", str(target.file)),
+        )
     for folder in sorted(out.glob("conflicts*")):
         if folder.is_dir():
             settled |= {entry_of(fields) for fields in records((folder / "kit.csv").read_bytes())}
     expect(settled - conflicts, set(), "what the kit of conflicts has that is none")
     left = re.search("no piece takes AFTER's side of (.*?)(;|$)", told, re.MULTILINE)
-    expect(len(settled) + (len(left[1].split(", ")) if left else 0), len(conflicts), "conflicts that are settled or named")
-    final = {entry: value for entry, value in result.items() if entry not in settled} | {entry: after[entry] for entry in settled if entry in after}
+    expect(
+        len(settled) + (len(left[1].split(", ")) if left else 0), len(conflicts), "conflicts that are settled or named"
+    )
+    final = {entry: value for entry, value in result.items() if entry not in settled} | {
+        entry: after[entry] for entry in settled if entry in after
+    }
     return final, [line.split()[1].split(",")[1] for line in commands if line.startswith("echo edition,")]
 
 
 def entry_of(fields):
     """What a record of a kit's list is of, as the model names it."""
     word = fields[1].decode().removesuffix("-drop")
-    part, size = {"matrix": ("matrix", 1), "tile": ("tile", 3), "row": ("item", 1), "media": ("item", 1), "map": ("map", 2)}[word]
-    return (part, fields[2].decode(), *map(int, fields[3:3 + size]))
+    part, size = {
+        "matrix": ("matrix", 1),
+        "tile": ("tile", 3),
+        "row": ("item", 1),
+        "media": ("item", 1),
+        "map": ("map", 2),
+    }[word]
+    return (part, fields[2].decode(), *map(int, fields[3 : 3 + size]))
 
 
 def expect_between(before, after, other, folder, onto, seen=None, renumber=False, anyway=False):
     """What the tool writes makes of a copy of OTHER what the rule gives, without a refusal; returns the conflicts, and what was told."""
     out, states = folder / "out", [entries(it.package) for it in (after, before, other)]
-    words = [*(["--onto", other.file] if onto else []), *(["--renumber"] if renumber else []), *(["--anyway"] if anyway else [])]
+    words = [
+        *(["--onto", other.file] if onto else []),
+        *(["--renumber"] if renumber else []),
+        *(["--anyway"] if anyway else []),
+    ]
     status = 1 if by_the_rule(states[1], states[0], states[2])[1] or states[0] == states[1] else 0
     printed, told = run(TOOL, before.file, after.file, "home", out, *words, status=status if not renumber else None)
     if renumber:
@@ -304,8 +331,26 @@ def check_random_packages(folder, given):
             raise AssertionError(f"seed {given.seed}, round {number}: {error}") from error
     for word, times in sorted(seen.items()):
         print(f"    {times:6} {word}")
-    missing = {"relation-drop", "drop", "srs", "pyramid", "table", "relation", "edition", "matrix", "tile", "tile-drop", "row", "row-drop", "media",
-               "media-drop", "map", "map-drop", "renumbered", "kit of conflicts"} - {it for it, times in seen.items() if times}
+    missing = {
+        "relation-drop",
+        "drop",
+        "srs",
+        "pyramid",
+        "table",
+        "relation",
+        "edition",
+        "matrix",
+        "tile",
+        "tile-drop",
+        "row",
+        "row-drop",
+        "media",
+        "media-drop",
+        "map",
+        "map-drop",
+        "renumbered",
+        "kit of conflicts",
+    } - {it for it, times in seen.items() if times}
     assert given.rounds < DEFAULT_ROUNDS or not missing, f"not seen: {missing}"
     return given.rounds * 3 + given.rounds // 4
 
@@ -313,12 +358,18 @@ def check_random_packages(folder, given):
 def one_round(folder, empty, source, number, seen):
     """A pair, a three, and now and then a pair of which neither came of the other, so that systems may have changed or gone."""
     before = empty.copy(folder / "before.mmpkg").change(source, [*OPENING, *words_of(source, 45)])
-    after, other = (before.copy(folder / f"{name}.mmpkg").change(source, words_of(source, 24)) for name in ("after", "other"))
+    after, other = (
+        before.copy(folder / f"{name}.mmpkg").change(source, words_of(source, 24)) for name in ("after", "other")
+    )
     for kept in (before, after, other):
         expect_rows(kept.file, kept.package)
     conflicts, _ = expect_between(before, after, before, folder, False, seen)
     expect(conflicts, [], "what is left out")
-    expect(by_the_rule(*(entries(it.package) for it in (before, after, before)))[0], entries(after.package), "the rule between two")
+    expect(
+        by_the_rule(*(entries(it.package) for it in (before, after, before)))[0],
+        entries(after.package),
+        "the rule between two",
+    )
     expect_between(before, after, other, folder, True, seen)
     expect_between(before, after, other, folder, True, seen, renumber=True)
     if number % 4 == 0:
@@ -529,7 +580,11 @@ def check_each_conflict(folder, _):
     assert 'row,left 2,,"new,,2",' in found, found
     conflicts, told = expect_between(before, after, other, folder, True)
     expect(sorted(" ".join(it) for it in conflicts), sorted(BY_HAND_CONFLICTS.splitlines()), "conflicts")
-    expect(sorted({line.split(": ", 2)[2] for line in told.splitlines() if line.startswith("left out: ")}), REASONS.splitlines(), "reasons")
+    expect(
+        sorted({line.split(": ", 2)[2] for line in told.splitlines() if line.startswith("left out: ")}),
+        REASONS.splitlines(),
+        "reasons",
+    )
     assert "there already: 1 row\n" in told, told
 
 
@@ -550,11 +605,20 @@ def check_two_crews(folder, _):
     """What both made is told in other words than what both changed, and the kit of conflicts brings the bytes of the second crew."""
     before, after, other = two_crews(folder)
     _, told = expect_between(before, after, other, folder, True)
-    for line in ("left out: media photos 2: both made one", "left out: row spots 4: both made one", "left out: row spots 3: both changed it",
-                 "    echo edition,home_theirs | mmpkg run FILE", "    echo publish,home_theirs | mmpkg run FILE"):
+    for line in (
+        "left out: media photos 2: both made one",
+        "left out: row spots 4: both made one",
+        "left out: row spots 3: both changed it",
+        "    echo edition,home_theirs | mmpkg run FILE",
+        "    echo publish,home_theirs | mmpkg run FILE",
+    ):
         assert line in told.splitlines(), f"{line!r} isn't told: {told}"
     run(TOOL, before.file, after.file, "home", folder / "kept", "--onto", other.file, status=1)
-    expect(sorted(it.read_bytes() for it in (folder / "kept" / "conflicts").iterdir() if it.name != "kit.csv"), [b"\xff\xd8\xff"], "bytes")
+    expect(
+        sorted(it.read_bytes() for it in (folder / "kept" / "conflicts").iterdir() if it.name != "kit.csv"),
+        [b"\xff\xd8\xff"],
+        "bytes",
+    )
 
 
 def check_one_crew_then_the_next(folder, _):
@@ -575,12 +639,22 @@ def check_new_numbers(folder, _):
     before, after, other = two_crews(folder)
     conflicts, told = expect_between(before, after, other, folder, True, renumber=True)
     expect(conflicts, [["row", "spots 3"]], "conflicts")
-    for line in ("renumbered: media photos 2 is 3", "renumbered: row spots 4 is 6", "there already: nothing",
-                 "next: give the crew a new copy: its own has the old numbers"):
+    for line in (
+        "renumbered: media photos 2 is 3",
+        "renumbered: row spots 4 is 6",
+        "there already: nothing",
+        "next: give the crew a new copy: its own has the old numbers",
+    ):
         assert line in told.splitlines(), f"{line!r} isn't told: {told}"
     run(TOOL, before.file, after.file, "home", folder / "kept", "--onto", other.file, "--renumber", status=1)
-    expect((folder / "kept" / "renumbered.csv").read_text(), "what,table,old,new\nmedia,photos,2,3\nrow,spots,4,6\n", "renumbered.csv")
-    assert ",map,spots_photos,6,3\n" in (folder / "kept" / "home" / "kit.csv").read_text(), "the mapping row isn't there"
+    expect(
+        (folder / "kept" / "renumbered.csv").read_text(),
+        "what,table,old,new\nmedia,photos,2,3\nrow,spots,4,6\n",
+        "renumbered.csv",
+    )
+    assert (
+        ",map,spots_photos,6,3\n" in (folder / "kept" / "home" / "kit.csv").read_text()
+    ), "the mapping row isn't there"
     run(TOOL, before.file, after.file, "home", folder / "out", "--renumber", status=2)
 
 
@@ -598,7 +672,11 @@ def check_numbers_of_the_page(folder, _):
 def expect_refused(folder, words, *lines):
     """The tool refuses with 2 and these lines, and makes nothing; with --anyway it reckons. Returns what it tells then."""
     told = run(TOOL, *words[:2], "home", folder / "refused", *words[2:], status=2)
-    expect(told, ("", "".join(f"{line}\n" for line in (*lines, "nothing was made; --anyway reckons all the same"))), "what is told")
+    expect(
+        told,
+        ("", "".join(f"{line}\n" for line in (*lines, "nothing was made; --anyway reckons all the same"))),
+        "what is told",
+    )
     expect((folder / "refused").exists(), False, "whether something was made")
     shutil.rmtree(folder / "anyway", ignore_errors=True)
     return run(TOOL, *words[:2], "home", folder / "anyway", *words[2:], "--anyway", status=None)[1]
@@ -626,7 +704,10 @@ def check_editions_that_are_lacking(folder, _):
     for mark in ("out_a_1_zzzzzz", "out_b_2_zzzzzz"):
         by_hand(office, f"edition,{mark}\npublish,{mark}\n")
         copies[mark[4]] = office.copy(folder / f"{mark}.mmpkg")
-    crews = {name: by_hand(copy.copy(folder / f"crew_{name}.mmpkg"), f"row,spots,4,Of {name},,1\n") for name, copy in copies.items()}
+    crews = {
+        name: by_hand(copy.copy(folder / f"crew_{name}.mmpkg"), f"row,spots,4,Of {name},,1\n")
+        for name, copy in copies.items()
+    }
     lacks = "as AFTER it lacks published editions of BEFORE, which never go away: out_b_2_zzzzzz"
     words = copies["b"].file, crews["a"].file, "--onto", office.file
     told = expect_refused(folder, words, f"{crews['a'].file}: {lacks}")
@@ -634,11 +715,17 @@ def check_editions_that_are_lacking(folder, _):
     for name in "ab":
         run(TOOL, copies[name].file, crews[name].file, "home", folder / name, "--onto", office.file)
     other = by_hand(new_package(folder / "other.mmpkg"), CREWS + "edition,last\npublish,last\n")
-    expect_refused(folder, (copies["a"].file, crews["a"].file, "--onto", other.file),
-                   f"{other.file}: as OTHER it has none of BEFORE's published editions: first, out_a_1_zzzzzz")
+    expect_refused(
+        folder,
+        (copies["a"].file, crews["a"].file, "--onto", other.file),
+        f"{other.file}: as OTHER it has none of BEFORE's published editions: first, out_a_1_zzzzzz",
+    )
     by_hand(other, "edition,first\npublish,first\n")
-    expect_refused(folder, (copies["a"].file, crews["a"].file, "--onto", other.file),
-                   f"{other.file}: as OTHER it didn't hand BEFORE out, which is marked out_a_1_zzzzzz")
+    expect_refused(
+        folder,
+        (copies["a"].file, crews["a"].file, "--onto", other.file),
+        f"{other.file}: as OTHER it didn't hand BEFORE out, which is marked out_a_1_zzzzzz",
+    )
 
 
 def check_words_of_pages(folder, _):
@@ -658,14 +745,24 @@ def check_words_of_pages(folder, _):
 def check_rows_that_never_came_home(folder, _):
     """Rows and media that BEFORE and AFTER have alike, and OTHER hasn't, are named; the line that matters stands before all notes."""
     office = by_hand(new_package(folder / "office.mmpkg"), CREWS)
-    before = by_hand(office.copy(folder / "before.mmpkg"), "row,spots,40,Gate,,1\nrow,spots,41,Oak,,1\nmedia,photos,7,a/b,00\n")
+    before = by_hand(
+        office.copy(folder / "before.mmpkg"), "row,spots,40,Gate,,1\nrow,spots,41,Oak,,1\nmedia,photos,7,a/b,00\n"
+    )
     after = by_hand(before.copy(folder / "after.mmpkg"), "row,spots,5,Fence,,1\n")
     run(PROGRAM, "run", after.file, "--at", 86400000, given=b"row,spots,3,Well,deep,1\n")
     told = run(TOOL, before.file, after.file, "home", folder / "out", "--onto", office.file)[1].splitlines()
     missing = "BEFORE and AFTER have it, OTHER doesn't: it was removed there, or never came home"
-    expect(told[:5], ["written: 1 edition, 2 row", "there already: nothing", "conflicts: nothing",
-                      f"note: media photos 7, row spots 40, row spots 41: {missing}",
-                      "note: last_change of spots: it is another in AFTER, and doesn't cross"], "what is told")
+    expect(
+        told[:5],
+        [
+            "written: 1 edition, 2 row",
+            "there already: nothing",
+            "conflicts: nothing",
+            f"note: media photos 7, row spots 40, row spots 41: {missing}",
+            "note: last_change of spots: it is another in AFTER, and doesn't cross",
+        ],
+        "what is told",
+    )
 
 
 def check_system_that_changed(folder, _):
@@ -681,8 +778,10 @@ def check_system_that_changed(folder, _):
 def check_identifiers_that_swap(folder, _):
     """Two tables take each other's identifiers, and a name passes from a table to a relation and back."""
     layout = "table,a,attributes,One\ntable,b,media,Two\nrow,a,1,x,,1\nmedia,b,1,a/b,00\nrelation,m,a,b,media\nmap,m,1,1\ntable,t,attributes,T\n"
-    swapped = ("relation-drop,m\ndrop,a\ndrop,b\ndrop,t\ntable,a,attributes,Two\ntable,b,media,One\nrow,a,1,x,,1\nmedia,b,1,a/b,00\n"
-               "relation,t,a,b,media\nmap,t,1,1\ntable,m,attributes,T\n")
+    swapped = (
+        "relation-drop,m\ndrop,a\ndrop,b\ndrop,t\ntable,a,attributes,Two\ntable,b,media,One\nrow,a,1,x,,1\nmedia,b,1,a/b,00\n"
+        "relation,t,a,b,media\nmap,t,1,1\ntable,m,attributes,T\n"
+    )
     before = by_hand(new_package(folder / "before.mmpkg"), layout)
     after = by_hand(before.copy(folder / "after.mmpkg"), swapped)
     expect_between(before, after, before, folder, False)
@@ -698,15 +797,24 @@ def check_one_that_is_as_the_other(folder, _):
     expect(printed, "", "commands")
     expect([file.name for file in (folder / "out").iterdir()], ["before.csv"], "files")
     expect((folder / "out" / "before.csv").read_bytes(), b"", "before.csv")
-    expect(told.splitlines(), ["written: nothing", f"{after.file}: nothing was changed: was its journal copied along?",
-                               "note: edition draft: none in BEFORE, open with pieces: 1 in AFTER; editions don't cross",
-                               "note: last_change of a: it is another in AFTER, and doesn't cross"], "what is told")
+    expect(
+        told.splitlines(),
+        [
+            "written: nothing",
+            f"{after.file}: nothing was changed: was its journal copied along?",
+            "note: edition draft: none in BEFORE, open with pieces: 1 in AFTER; editions don't cross",
+            "note: last_change of a: it is another in AFTER, and doesn't cross",
+        ],
+        "what is told",
+    )
 
 
 def with_rows(kept, numbers, *values):
     """Puts rows into a table of a closed package, which the program checks before the tool reads it."""
     with contextlib.closing(sqlite3.connect(kept.file)) as opened:
-        opened.executemany("INSERT INTO mm_rows VALUES (?, ?, ?, ?, ?)", [("z" * 60, number, *values) for number in numbers])
+        opened.executemany(
+            "INSERT INTO mm_rows VALUES (?, ?, ?, ?, ?)", [("z" * 60, number, *values) for number in numbers]
+        )
         opened.commit()
     kept.package.rows.update({("z" * 60, number): values for number in numbers})
 
@@ -720,7 +828,11 @@ def check_many_pieces(folder, _):
     lists = [(folder / "out" / name / "kit.csv").read_text().splitlines() for name in ("home", "home_2")]
     expect([len(lines) for lines in lists], [MOST_PIECES, 1], "pieces")
     expect((folder / "out" / "before.csv").read_text(), "edition,home\nedition,home_2\n", "before.csv")
-    expect([line.split()[1] for line in printed.splitlines()], ["run", "kit", "publish,home", "kit", "publish,home_2"], "commands")
+    expect(
+        [line.split()[1] for line in printed.splitlines()],
+        ["run", "kit", "publish,home", "kit", "publish,home_2"],
+        "commands",
+    )
     shutil.rmtree(folder / "out")
     expect_between(before, after, before, folder, False)
 
@@ -746,18 +858,35 @@ def check_bad_input(folder, _):
         opened.execute("CREATE TABLE other (id INTEGER)")
     (folder / "stands").mkdir()
     files = {file: content_of(file) for file in sorted(folder.iterdir())}
-    lines = {"none": ("not a package 94", 4), "other": ("not a package 94", 4), "notes": ("fault 91", 3),
-             "older": ("not a package 93 (of profile 1; 'mmpkg migrate {}' brings it to this one)", 4)}
+    lines = {
+        "none": ("not a package 94", 4),
+        "other": ("not a package 94", 4),
+        "notes": ("fault 91", 3),
+        "older": ("not a package 93 (of profile 1; 'mmpkg migrate {}' brings it to this one)", 4),
+    }
     for name, (line, status) in lines.items():
         bad = folder / f"{name}.mmpkg"
-        for words in ((bad, two.file, "home", folder / "out"), (one.file, bad, "home", folder / "out"),
-                      (one.file, two.file, "home", folder / "out", "--onto", bad)):
+        for words in (
+            (bad, two.file, "home", folder / "out"),
+            (one.file, bad, "home", folder / "out"),
+            (one.file, two.file, "home", folder / "out", "--onto", bad),
+        ):
             expect(run(TOOL, *words, status=status), ("", f"{bad}: {line.format(bad)}\n"), f"what is told of {name}")
-    for edition, out in (("home", "stands"), ("home", "notes.mmpkg/out"), ("home", "missing/out"), ("taken", "out"), ("Home", "out"), ("mm_a", "out")):
+    for edition, out in (
+        ("home", "stands"),
+        ("home", "notes.mmpkg/out"),
+        ("home", "missing/out"),
+        ("taken", "out"),
+        ("Home", "out"),
+        ("mm_a", "out"),
+    ):
         printed, told = run(TOOL, one.file, two.file, edition, folder / out, status=2)
         assert printed == "" and len(told.splitlines()) == 1, told
-    expect(run(TOOL, one.file, two.file, "taken", folder / "out", status=2)[1],
-           f"{one.file}: has an edition taken, and no name is used twice\n", "what is told of a name that is taken")
+    expect(
+        run(TOOL, one.file, two.file, "taken", folder / "out", status=2)[1],
+        f"{one.file}: has an edition taken, and no name is used twice\n",
+        "what is told of a name that is taken",
+    )
     run(TOOL, one.file, two.file, status=2)
     expect({file: content_of(file) for file in sorted(folder.iterdir())}, files, "files")
 

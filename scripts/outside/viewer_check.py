@@ -29,7 +29,19 @@ import browsers
 import make_profile_1
 import page_map
 from checks import PROGRAM, TOP, content_of, end, expect, mmpkg, run, run_checks
-from viewer_package import BLANK, PLAIN, PYRAMIDS, TOOL, UNITS_PER_METRE, content, new_package, picture, served, take_in, tile_piece
+from viewer_package import (
+    BLANK,
+    PLAIN,
+    PYRAMIDS,
+    TOOL,
+    UNITS_PER_METRE,
+    content,
+    new_package,
+    picture,
+    served,
+    take_in,
+    tile_piece,
+)
 
 
 class Scene:
@@ -69,7 +81,9 @@ class Scene:
 
 def settle(page):
     """Waits until no tile is on its way and nothing moves."""
-    page.wait("!document.querySelector('img.leaflet-tile:not(.leaflet-tile-loaded), .leaflet-zoom-anim, .leaflet-pan-anim')")
+    page.wait(
+        "!document.querySelector('img.leaflet-tile:not(.leaflet-tile-loaded), .leaflet-zoom-anim, .leaflet-pan-anim')"
+    )
     page.value("new Promise(done => requestAnimationFrame(() => requestAnimationFrame(() => done(1))))")
 
 
@@ -88,7 +102,10 @@ def zoom_to(page, zoom, easting=None, northing=None):
 def position(page):
     """What the page tells: easting, northing, of what, and the zoom."""
     told = page.value("byId('position').innerText")
-    found = re.fullmatch(r"E (-?[0-9.]+) m, N (-?[0-9.]+) m \((pointer|finger|centre)\)\nzoom ([0-9]+), ([0-9.]+)(?: by ([0-9.]+))? m a pixel(?:, [0-9]+ times (?:larger|smaller))?", told)
+    found = re.fullmatch(
+        r"E (-?[0-9.]+) m, N (-?[0-9.]+) m \((pointer|finger|centre)\)\nzoom ([0-9]+), ([0-9.]+)(?: by ([0-9.]+))? m a pixel(?:, [0-9]+ times (?:larger|smaller))?",
+        told,
+    )
     assert found, f"the page tells {told!r}"
     return float(found[1]), float(found[2]), found[3], int(found[4])
 
@@ -101,7 +118,9 @@ def box_of(page, element="byId('map')"):
 def places(page):
     """Places on the map's part of the screen, away from its buttons and its scale bar."""
     left, top, wide, high = box_of(page)
-    return [(round(left + wide * x / 9) + 0.5, round(top + high * y / 8) + 0.5) for x in range(2, 9) for y in range(1, 7)]
+    return [
+        (round(left + wide * x / 9) + 0.5, round(top + high * y / 8) + 0.5) for x in range(2, 9) for y in range(1, 7)
+    ]
 
 
 def near(found, wanted, by):
@@ -120,7 +139,10 @@ def expect_colours(scene, page, pyramid, name):
         matrix = next(it for it in pyramid.zooms if it.zoom == zoom)
         colour, edges = pyramid.colour_at(matrix, easting, northing)
         # Where colours meet a browser mixes them: within a few pixels of the screen, and within one of the tile that is enlarged.
-        if any(edge < max(3 * side, 1.5 * pixel / UNITS_PER_METRE) for edge, pixel in zip(edges, (matrix.pixel_x, matrix.pixel_y))):
+        if any(
+            edge < max(3 * side, 1.5 * pixel / UNITS_PER_METRE)
+            for edge, pixel in zip(edges, (matrix.pixel_x, matrix.pixel_y))
+        ):
             continue
         shown = rows[int(y)][int(x)]
         assert near(shown, colour, 2), f"{name}: {shown} for {colour} at {x}, {y}, which is {easting}, {northing}"
@@ -188,10 +210,15 @@ def check_whole_map(scene):
         settle(page)
         easting, northing, whose, zoom = position(page)
         expect(whose, "centre", "whose position is told")
-        assert near((easting, northing), ((left + right) / 2, (bottom + top) / 2), 0.51), f"the middle is {easting}, {northing}"
+        assert near(
+            (easting, northing), ((left + right) / 2, (bottom + top) / 2), 0.51
+        ), f"the middle is {easting}, {northing}"
         _, _, wide, high = box_of(page)
-        fits = [it.zoom for it in pyramid.zooms
-                if max((right - left) / wide, (top - bottom) / high) <= min(it.pixel_x, it.pixel_y) / UNITS_PER_METRE]
+        fits = [
+            it.zoom
+            for it in pyramid.zooms
+            if max((right - left) / wide, (top - bottom) / high) <= min(it.pixel_x, it.pixel_y) / UNITS_PER_METRE
+        ]
         expect(zoom, fits[-1], f"the zoom of {pyramid.table}")
     expect_quiet(scene, [page])
 
@@ -224,7 +251,9 @@ def check_no_hair_lines(scene):
             x, y = middle(page, "map")
             data = page.screenshot((x - 80, y - 40, 160, 80))
             off = max(abs(a - b) for row in page_map.read_png(data) for pixel in row for a, b in zip(pixel, PLAIN))
-            assert off <= (0 if scale == int(scale) else 6), f"a pixel is off by {off} at zoom {zoom} on a screen of {scale}"
+            assert off <= (
+                0 if scale == int(scale) else 6
+            ), f"a pixel is off by {off} at zoom {zoom} on a screen of {scale}"
 
 
 def check_scale_bar(scene):
@@ -240,7 +269,9 @@ def check_scale_bar(scene):
         from_easting = position(page)[0]
         page.move(left + 300 + long, top + 300)
         metres = position(page)[0] - from_easting
-        assert abs(metres / (float(number) * (1000 if unit == "km" else 1)) - 1) < 0.02, f"the bar of {words} is {metres} m long"
+        assert (
+            abs(metres / (float(number) * (1000 if unit == "km" else 1)) - 1) < 0.02
+        ), f"the bar of {words} is {metres} m long"
 
 
 def check_mouse(scene):
@@ -321,7 +352,9 @@ def check_fingers(scene):
     settle(page)
     expect(position(page)[2], "finger", "whose position is told")
     centre = page.value("map.getCenter().lng")
-    assert centre > before[0] + 50 * page.value("metresAt(shown, map.getZoom())"), f"the map moved from {before[0]} to {centre}"
+    assert centre > before[0] + 50 * page.value(
+        "metresAt(shown, map.getZoom())"
+    ), f"the map moved from {before[0]} to {centre}"
     zoom = page.value("map.getZoom()")
     page.touch([(x - 20, y), (x + 20, y)], *([(x - 20 - 6 * step, y), (x + 20 + 6 * step, y)] for step in range(1, 13)))
     time.sleep(0.8)
@@ -361,11 +394,21 @@ def check_related_media(scene):
     """Pictures are shown as pictures, the rest as links, rows as buttons that go on; what isn't there is said."""
     page = scene.open()
     ask_related(page, "spots", 7, 5)
-    items = page.value("[...byId('related').children].map(it => [it.innerText.trim(), it.querySelector('img')?.naturalWidth ?? 0, "
-                       "it.querySelector('a')?.getAttribute('href') ?? ''])")
-    expect(items, [["owners 9007199254740992", 0, ""], ["papers 4 (application/pdf)", 0, "/media/papers/4"],
-                   ["photos 1 (image/png)", 160, "/media/photos/1"], ["photos 2 (image/png)", 120, "/media/photos/2"],
-                   ["photos 9 (image/jpeg)", 0, "/media/photos/9"]], "related items")
+    items = page.value(
+        "[...byId('related').children].map(it => [it.innerText.trim(), it.querySelector('img')?.naturalWidth ?? 0, "
+        "it.querySelector('a')?.getAttribute('href') ?? ''])"
+    )
+    expect(
+        items,
+        [
+            ["owners 9007199254740992", 0, ""],
+            ["papers 4 (application/pdf)", 0, "/media/papers/4"],
+            ["photos 1 (image/png)", 160, "/media/photos/1"],
+            ["photos 2 (image/png)", 120, "/media/photos/2"],
+            ["photos 9 (image/jpeg)", 0, "/media/photos/9"],
+        ],
+        "related items",
+    )
     expect(page.value("byId('answer').innerText"), "spots 7 is related to 5 items.", "the answer")
     page.value("byId('related').querySelectorAll('li')[2].scrollIntoView()")
     rows = scene.screenshot(page, "related")
@@ -391,7 +434,9 @@ def check_tables(scene):
     """All tables are listed with identifier and last change, as text whatever they are called."""
     page = scene.open()
     listed = page.value("[...byId('tables').children].map(it => it.innerText)")
-    told = [line for line in mmpkg("list", copy_of(scene, "listed.mmpkg")).splitlines() if not line.startswith("edition ")]
+    told = [
+        line for line in mmpkg("list", copy_of(scene, "listed.mmpkg")).splitlines() if not line.startswith("edition ")
+    ]
     expect(len(listed), len(told), "tables")
     for shown, line in zip(listed, told):
         table, kind, _, changed, identifier = line.split(None, 4)
@@ -404,14 +449,18 @@ def check_tables(scene):
 def check_nothing_elsewhere(scene):
     """The page's policy keeps it from other addresses, and from running what isn't its own."""
     page = scene.open()
-    page.value("addEventListener('securitypolicyviolation', it => (window.blocked ??= []).push(it.effectiveDirective)); 0")
+    page.value(
+        "addEventListener('securitypolicyviolation', it => (window.blocked ??= []).push(it.effectiveDirective)); 0"
+    )
     with socket.create_server(("127.0.0.1", 0)) as other:
         other.settimeout(2)
         there = f"http://127.0.0.1:{other.getsockname()[1]}"
         expect(page.value(f"fetch('{there}/a').then(() => 'had', () => 'kept')"), "kept", "a fetch of another address")
         image = f"new Promise(done => {{ const it = new Image(); it.onload = it.onerror = event => done(event.type); it.src = '{there}/b'; }})"
         expect(page.value(image), "error", "an image of another address")
-        page.value("document.body.append(Object.assign(document.createElement('script'), { textContent: 'window.foreign = true' }))")
+        page.value(
+            "document.body.append(Object.assign(document.createElement('script'), { textContent: 'window.foreign = true' }))"
+        )
         expect(page.value("window.foreign ?? false"), False, "a script that isn't the page's own")
         with contextlib.suppress(TimeoutError):
             other.accept()
@@ -451,7 +500,11 @@ def check_what_came_later(scene):
         page = scene.open(f"{address}/media/viewer/1")
         told = "This viewer was made before the zooms of Later map: make the viewer anew to see them."
         expect(page.value("byId('messages').innerText"), told, "messages")
-        expect(page.value("[...byId('pyramids').options].map(it => it.value)"), [it.table for it in PYRAMIDS], "maps to choose")
+        expect(
+            page.value("[...byId('pyramids').options].map(it => it.value)"),
+            [it.table for it in PYRAMIDS],
+            "maps to choose",
+        )
         scene.screenshot(page, "later")
     commands, _ = take_in(file, scene.folder / "anew")
     words = [json.loads((scene.folder / it / "viewer-4").read_text())["package"] for it in ("out", "anew")]
@@ -486,7 +539,13 @@ matrix,empty,0,1,1,64,64,64000000,64000000
 
 def sparse_package(file):
     tile = picture(64, 64, PLAIN)
-    new_package(file, SPARSE + "".join(tile_piece("corner", 6, column, row, tile).command() for column in range(50, 54) for row in range(3, 6)))
+    new_package(
+        file,
+        SPARSE
+        + "".join(
+            tile_piece("corner", 6, column, row, tile).command() for column in range(50, 54) for row in range(3, 6)
+        ),
+    )
 
 
 def check_where_tiles_are(scene):
@@ -496,7 +555,11 @@ def check_where_tiles_are(scene):
     take_in(file, scene.folder / "sparse")
     with served(file) as address:
         page = scene.open(f"{address}/media/viewer/1")
-        expect((position(page)[3], is_told_missing(page), shown_tiles(page)), (6, False, 12), "the zoom, the word, and tiles at the start")
+        expect(
+            (position(page)[3], is_told_missing(page), shown_tiles(page)),
+            (6, False, 12),
+            "the zoom, the word, and tiles at the start",
+        )
         page.click(*middle(page, "fit"))
         settle(page)
         expect((position(page)[3], is_told_missing(page), shown_tiles(page)), (0, True, 0), "behind 'Whole map'")
@@ -504,21 +567,33 @@ def check_where_tiles_are(scene):
         page.click(*middle(page, "tiles"))
         settle(page)
         expect((position(page)[3], is_told_missing(page), shown_tiles(page)), (6, False, 12), "behind 'To the tiles'")
-        for typed, place, said in (("1000 2000", (1000, 2000), ""), ("E 3296.5, N 3808", (3296.5, 3808), ""), ("9000 1", (9000, 1), "This place is outside the map."),
-                                   ("x 7", (9000, 1), "Two numbers are asked for: easting, then northing.")):
+        for typed, place, said in (
+            ("1000 2000", (1000, 2000), ""),
+            ("E 3296.5, N 3808", (3296.5, 3808), ""),
+            ("9000 1", (9000, 1), "This place is outside the map."),
+            ("x 7", (9000, 1), "Two numbers are asked for: easting, then northing."),
+        ):
             page.value(f"byId('wanted').value = '{typed}'; byId('go').requestSubmit(); 0")
             settle(page)
             assert near(position(page)[:2], place, 0.51), f"{typed}: {position(page)}"
             expect(page.value("byId('gone').innerText"), said, f"what is said of {typed}")
         choose(page, "empty")
-        expect((is_told_missing(page), page.value("byId('tiles').disabled"), page.value("byId('messages').innerText")), (True, True, ""), "an empty map")
+        expect(
+            (is_told_missing(page), page.value("byId('tiles').disabled"), page.value("byId('messages').innerText")),
+            (True, True, ""),
+            "an empty map",
+        )
 
 
 def check_bounds_of_a_map(scene):
     """A map of kept bounds is shown within them: what its tiles have outside is covered, and 'Whole map' is theirs."""
     file = scene.folder / "bounded.mmpkg"
     sparse_package(file)
-    mmpkg("run", file, given=b"table,map_bounds,attributes,Bounds of maps\nrow,map_bounds,1,corner,3200000000 3700000000 3300000000 3904000000,0\n")
+    mmpkg(
+        "run",
+        file,
+        given=b"table,map_bounds,attributes,Bounds of maps\nrow,map_bounds,1,corner,3200000000 3700000000 3300000000 3904000000,0\n",
+    )
     take_in(file, scene.folder / "bounded")
     with served(file) as address:
         page = scene.open(f"{address}/media/viewer/1")
@@ -537,7 +612,11 @@ def check_small_screens(scene):
         page = scene.open(width=wide, height=high, touch=True)
         expect(page.value("document.documentElement.scrollWidth <= innerWidth"), True, f"the page fits {wide} pixels")
         assert box_of(page)[3] >= 195, f"the map is {box_of(page)} at {wide}"
-        expect(page.value("[map.getSize().x, map.getSize().y]"), page.value("[byId('map').clientWidth, byId('map').clientHeight]"), "the map's size")
+        expect(
+            page.value("[map.getSize().x, map.getSize().y]"),
+            page.value("[byId('map').clientWidth, byId('map').clientHeight]"),
+            "the map's size",
+        )
         scene.screenshot(page, f"screen-{wide}")
 
 
@@ -548,32 +627,68 @@ def package_files(folder):
 def check_tool_makes_a_kit(scene):
     """OUT has the layout and four items, whose bytes are the page, Leaflet with its licence, and what the page has to know."""
     out = scene.folder / "out"
-    expect(sorted(it.name for it in out.iterdir()), ["kit.csv", "layout.csv", "viewer-1", "viewer-2", "viewer-3", "viewer-4"], "files")
+    expect(
+        sorted(it.name for it in out.iterdir()),
+        ["kit.csv", "layout.csv", "viewer-1", "viewer-2", "viewer-3", "viewer-4"],
+        "files",
+    )
     expect((out / "layout.csv").read_text(), "table,viewer,media,Map viewer\nedition,viewer\n", "layout.csv")
     for number in (2, 3):
         text = (out / f"viewer-{number}").read_text()
-        assert text.startswith("/* Leaflet") and "Redistributions in binary form" in text and "sourceMappingURL" not in text, f"item {number}"
+        assert (
+            text.startswith("/* Leaflet")
+            and "Redistributions in binary form" in text
+            and "sourceMappingURL" not in text
+        ), f"item {number}"
     known = json.loads((out / "viewer-4").read_text())
-    expect({table: [tuple(it.values()) for it in entry["matrices"]] for table, entry in known["pyramids"].items()},
-           {it.table: [dataclasses.astuple(zoom) for zoom in it.zooms] for it in PYRAMIDS}, "matrices of item 4")
-    expect([tuple(it.values()) for it in known["relations"]], [("spots_owners", "spots", "owners", "simple_attributes"),
-           ("spots_papers", "spots", "papers", "media"), ("spots_photos", "spots", "photos", "media")], "relations of item 4")
+    expect(
+        {table: [tuple(it.values()) for it in entry["matrices"]] for table, entry in known["pyramids"].items()},
+        {it.table: [dataclasses.astuple(zoom) for zoom in it.zooms] for it in PYRAMIDS},
+        "matrices of item 4",
+    )
+    expect(
+        [tuple(it.values()) for it in known["relations"]],
+        [
+            ("spots_owners", "spots", "owners", "simple_attributes"),
+            ("spots_papers", "spots", "papers", "media"),
+            ("spots_photos", "spots", "photos", "media"),
+        ],
+        "relations of item 4",
+    )
     assert re.fullmatch("[0-9a-f]{16}", known["package"]), known["package"]
-    expect(max(len(it.read_text().splitlines()) for it in (TOP / "tools" / "page").iterdir()) <= 250, True, "each file of the page has at most 250 lines")
+    expect(
+        max(len(it.read_text().splitlines()) for it in (TOP / "tools" / "page").iterdir()) <= 250,
+        True,
+        "each file of the page has at most 250 lines",
+    )
     expect({it.name for it in scene.folder.iterdir() if it.name.startswith(".viewer")}, set(), "what is left behind")
 
 
 def check_tool_with_a_standing_table(scene):
     """A media table of the name is taken, where its items are a viewer's; the next edition's name is found."""
     file = scene.folder / "named.mmpkg"
-    new_package(file, "table,maps,media,Map viewer\nmedia,maps,1,text/html,3c\nedition,maps\npublish,maps\nedition,maps_2\n")
+    new_package(
+        file, "table,maps,media,Map viewer\nmedia,maps,1,text/html,3c\nedition,maps\npublish,maps\nedition,maps_2\n"
+    )
     commands, told = take_in(file, scene.folder / "maps out", "--table", "maps")
-    expect(told, f"note: edition maps_2: is open; 'discard,maps_2' takes it back where it was for an earlier viewer\n"
-                 f"note: {file}: has no matrix yet: make the viewer anew when it has\n", "what is told")
+    expect(
+        told,
+        f"note: edition maps_2: is open; 'discard,maps_2' takes it back where it was for an earlier viewer\n"
+        f"note: {file}: has no matrix yet: make the viewer anew when it has\n",
+        "what is told",
+    )
     expect((scene.folder / "maps out" / "layout.csv").read_text(), "edition,maps_3\n", "layout.csv")
-    assert "kit FILE maps_3" in commands and mmpkg("list", file).splitlines()[0].split()[:3] == ["maps", "media", "4"], commands
+    assert "kit FILE maps_3" in commands and mmpkg("list", file).splitlines()[0].split()[:3] == [
+        "maps",
+        "media",
+        "4",
+    ], commands
     take_in(file, scene.folder / "other", "--edition", "spring")
-    expect((scene.folder / "other" / "layout.csv").read_text(), 'table,viewer,media,Map viewer 2\nedition,spring\n', "layout.csv")
+    expect(
+        (scene.folder / "other" / "layout.csv").read_text(),
+        "table,viewer,media,Map viewer 2\nedition,spring\n",
+        "layout.csv",
+    )
     with served(file) as address:
         page = scene.open(f"{address}/media/viewer/1")
         expect(page.value("byId('messages').innerText"), "The package has no map yet.", "messages")
@@ -584,28 +699,62 @@ REFUSED = [
     (["{}/none.mmpkg", "{}/out"], "{}/none.mmpkg: not a package 94", 4),
     (["{}/notes.mmpkg", "{}/out"], "{}/notes.mmpkg: fault 91", 3),
     (["{}/broken.mmpkg", "{}/out"], "{}/broken.mmpkg: rule Q16", 4),
-    (["{}/one.mmpkg", "{}/out"], "{}/one.mmpkg: not a package 93 (of profile 1; 'mmpkg migrate {}/one.mmpkg' brings it to this one)", 4),
+    (
+        ["{}/one.mmpkg", "{}/out"],
+        "{}/one.mmpkg: not a package 93 (of profile 1; 'mmpkg migrate {}/one.mmpkg' brings it to this one)",
+        4,
+    ),
     (["{}", "{}/out"], "[Errno 21] Is a directory: '{}'", 2),
-    (["{}/good.mmpkg", "{}/stands"], "{}/stands: is there, and is not overwritten; remove it, or choose another name", 2),
+    (
+        ["{}/good.mmpkg", "{}/stands"],
+        "{}/stands: is there, and is not overwritten; remove it, or choose another name",
+        2,
+    ),
     (["{}/good.mmpkg", "{}/no/out"], "{}/no: is no folder", 2),
     (["{}/good.mmpkg", "{}/notes.mmpkg/out"], "{}/notes.mmpkg: is no folder", 2),
-    (["{}/good.mmpkg", "{}/out", "--table", "spots"], "spots: is a table of kind attributes; --table names another table", 2),
-    (["{}/good.mmpkg", "{}/out", "--table", "photos"], "photos: its item 1 is image/png and no viewer's; --table names another table", 2),
+    (
+        ["{}/good.mmpkg", "{}/out", "--table", "spots"],
+        "spots: is a table of kind attributes; --table names another table",
+        2,
+    ),
+    (
+        ["{}/good.mmpkg", "{}/out", "--table", "photos"],
+        "photos: its item 1 is image/png and no viewer's; --table names another table",
+        2,
+    ),
     (["{}/foreign.mmpkg", "{}/out"], "viewer: its item 9 is text/html and no viewer's; --table names another table", 2),
-    (["{}/foreign.mmpkg", "{}/out", "--table", "run"],
-     "run: its item 5 is no WMTS description of these tools; --table names another table", 2),
-    (["{}/related.mmpkg", "{}/out"], "viewer: the relation shown relates viewer to spots; --table names another table", 2),
-    (["{}/good.mmpkg", "{}/out", "--table", "views"], "views: is the name of a mapping; --table names another table", 2),
+    (
+        ["{}/foreign.mmpkg", "{}/out", "--table", "run"],
+        "run: its item 5 is no WMTS description of these tools; --table names another table",
+        2,
+    ),
+    (
+        ["{}/related.mmpkg", "{}/out"],
+        "viewer: the relation shown relates viewer to spots; --table names another table",
+        2,
+    ),
+    (
+        ["{}/good.mmpkg", "{}/out", "--table", "views"],
+        "views: is the name of a mapping; --table names another table",
+        2,
+    ),
     (["{}/good.mmpkg", "{}/out", "--table", "mm_map"], "'mm_map' is no name of a package", 2),
-    (["{}/good.mmpkg", "{}/out", "--edition", "old"], "old: this edition is published in the package; --edition names another", 2),
+    (
+        ["{}/good.mmpkg", "{}/out", "--edition", "old"],
+        "old: this edition is published in the package; --edition names another",
+        2,
+    ),
 ]
 
 
 def make_refused(folder):
     """The files that are refused, and a good one."""
     folder.mkdir()
-    new_package(folder / "good.mmpkg", "table,spots,attributes,Spots\ntable,photos,media,Photos\nmedia,photos,1,image/png,89504e47\n"
-                                      "relation,views,spots,photos,media\nedition,old\npublish,old\n")
+    new_package(
+        folder / "good.mmpkg",
+        "table,spots,attributes,Spots\ntable,photos,media,Photos\nmedia,photos,1,image/png,89504e47\n"
+        "relation,views,spots,photos,media\nedition,old\npublish,old\n",
+    )
     script = b"<x:script xmlns:x='http://www.w3.org/1999/xhtml'>stop()</x:script>".hex()
     new_package(folder / "foreign.mmpkg", "table,viewer,media,V\nmedia,viewer,9,text/html,3c\ntable,run,media,R\n"
                                          f"media,run,5,text/xml,{script}\n")  # fmt: skip
@@ -638,19 +787,40 @@ def check_tool_without_leaflet(scene):
     """Where Leaflet, its licence or the program is missing, that is named with what brings it; a reader who is gone gets no traceback."""
     for name in ("LEAFLET", "LICENCE"):
         code = f"import sys, pathlib, make_viewer; make_viewer.{name} = pathlib.Path('/nowhere'); make_viewer.run_tool(make_viewer.main)"
-        _, told = run("env", f"PYTHONPATH={TOP / 'tools'}", "python3", "-B", "-c", code, scene.file, scene.folder / "unmade", status=2)
+        _, told = run(
+            "env",
+            f"PYTHONPATH={TOP / 'tools'}",
+            "python3",
+            "-B",
+            "-c",
+            code,
+            scene.file,
+            scene.folder / "unmade",
+            status=2,
+        )
         assert re.fullmatch(r"/nowhere.*: isn't there; 'apt-get install libjs-leaflet' brings it\n", told), told
     _, told = run("env", "MMPKG=/nowhere", TOOL, scene.file, scene.folder / "unmade", status=2)
-    expect(told, "/nowhere: isn't there; scripts/build.sh makes out/mmpkg, or MMPKG names the program\n", "what is told")
+    expect(
+        told, "/nowhere: isn't there; scripts/build.sh makes out/mmpkg, or MMPKG names the program\n", "what is told"
+    )
     expect((scene.folder / "unmade").exists(), False, "something was made")
     read, write = os.pipe()
     os.close(read)
     for words in ([TOOL, scene.file, scene.folder / "unread"], [TOOL, "--help"]):
-        done = subprocess.run(words, stdout=write, stderr=subprocess.PIPE, check=False,
-                              env={**os.environ, "MMPKG": PROGRAM, "PYTHONUNBUFFERED": ""})
+        done = subprocess.run(
+            words,
+            stdout=write,
+            stderr=subprocess.PIPE,
+            check=False,
+            env={**os.environ, "MMPKG": PROGRAM, "PYTHONUNBUFFERED": ""},
+        )
         expect((done.returncode, done.stderr), (2, b"standard output: nobody reads it\n"), f"what {words} tells")
     os.close(write)
-    expect(package_files(scene.folder / "unread").keys(), package_files(scene.folder / "out").keys(), "a folder whose commands nobody read")
+    expect(
+        package_files(scene.folder / "unread").keys(),
+        package_files(scene.folder / "out").keys(),
+        "a folder whose commands nobody read",
+    )
 
 
 def main():

@@ -52,10 +52,14 @@ def entries_of(file):
     """All that a closed package has, as scripts/model/package_merge.py tells it: rows by their titles, photos by their first bytes."""
     found = {}
     with contextlib.closing(sqlite3.connect(f"file:{file}?mode=ro", uri=True)) as opened:
-        for name, kind, identifier in opened.execute("SELECT table_name, kind, identifier FROM gpkg_contents JOIN mm_tables USING (table_name)"):
+        for name, kind, identifier in opened.execute(
+            "SELECT table_name, kind, identifier FROM gpkg_contents JOIN mm_tables USING (table_name)"
+        ):
             found["table", name] = (kind, identifier, None, (None,) * 4)
         titles = add_items(found, opened)
-        for name, *ends, kind in opened.execute("SELECT mapping_table_name, base_table_name, related_table_name, relation_name FROM gpkgext_relations"):
+        for name, *ends, kind in opened.execute(
+            "SELECT mapping_table_name, base_table_name, related_table_name, relation_name FROM gpkgext_relations"
+        ):
             found["relation", name] = (*ends, kind)
         for name, base, related in opened.execute("SELECT mapping, base_id, related_id FROM mm_map"):
             tables = found["relation", name][:2]
@@ -70,7 +74,9 @@ def add_items(found, opened):
         titles[table, number] = values[0] if table != OWN else number
         assert ("item", table, titles[table, number]) not in found, f"row {values[0]} of {table} stands twice"
         found["item", table, titles[table, number]] = ("row", *values)
-    for table, number, content_type, data in opened.execute(f"SELECT table_name, id, content_type, {BYTES} FROM mm_media"):
+    for table, number, content_type, data in opened.execute(
+        f"SELECT table_name, id, content_type, {BYTES} FROM mm_media"
+    ):
         titles[table, number] = data[:8]
         assert ("item", table, data[:8]) not in found, f"photo {data[:8]} of {table} stands twice"
         found["item", table, data[:8]] = ("media", content_type, data)
@@ -86,7 +92,11 @@ def numbers_of(file):
 
 
 def published(file):
-    return {line.split()[1] for line in mmpkg("list", file).splitlines() if line.startswith("edition ") and line.endswith(" published")}
+    return {
+        line.split()[1]
+        for line in mmpkg("list", file).splitlines()
+        if line.startswith("edition ") and line.endswith(" published")
+    }
 
 
 # Tools in processes of their own, which a kill may end.
@@ -170,14 +180,18 @@ class Week:
 
     def expect_tool(self, name, *words, status):
         ended, printed, told = tool(name, *words, pieces=self.random.choice((2, 5, 4096)))
-        assert ended in ([status] if isinstance(status, int) else status), f"{name} {words} ended with {ended}, wanted {status}: {printed}{told}"
+        assert ended in (
+            [status] if isinstance(status, int) else status
+        ), f"{name} {words} ended with {ended}, wanted {status}: {printed}{told}"
         self.seen[f"{name} {ended}"] += 1
         return printed, told
 
     def killed_sometimes(self, name, *words):
         """A tool that is killed first, now and then."""
         while self.chance(3):
-            ended, printed, told = tool(name, *words, kill=self.random.randint(1, 25), behind=self.chance(5), pieces=self.random.choice((2, 5)))
+            ended, printed, told = tool(
+                name, *words, kill=self.random.randint(1, 25), behind=self.chance(5), pieces=self.random.choice((2, 5))
+            )
             assert ended in (0, 1, 2, -signal.SIGKILL), f"{name} {words} ended with {ended}: {printed}{told}"
             self.seen[f"{name} {'killed' if ended < 0 else 'not killed in time'}"] += 1
             if ended >= 0:
@@ -191,7 +205,9 @@ class Week:
         if self.chance(4):
             number = PAGE + self.random.randrange(2**50)
         else:
-            number = 1 + max([0, *(it for (_, name, _), it in numbers.items() if name == table and it < PAGE)], default=0)
+            number = 1 + max(
+                [0, *(it for (_, name, _), it in numbers.items() if name == table and it < PAGE)], default=0
+            )
         while (table, number) in self.taken[file]:
             number += 1
         self.taken[file].add((table, number))
@@ -208,7 +224,22 @@ class Week:
         self.count += 1
         rows = [it for it in entries if it[:2] == ("item", "spots")]
         photos = [it for it in entries if it[:2] == ("item", "photos")]
-        word = self.random.choice(("new", "new", "change", "change", "change", "remove", "photo", "photo", "photo changed", "pair", "unpair", "table"))
+        word = self.random.choice(
+            (
+                "new",
+                "new",
+                "change",
+                "change",
+                "change",
+                "remove",
+                "photo",
+                "photo",
+                "photo changed",
+                "pair",
+                "unpair",
+                "table",
+            )
+        )
         if word == "new" or (word in ("change", "photo") and not rows):
             entry = ("item", "spots", f"r{self.count}")
             numbers[entry], entries[entry] = self.new_number(file, "spots", numbers), ("row", entry[2], "", 0)
@@ -277,7 +308,9 @@ class Week:
                 running.stdout.readline()
             running.kill()
         if self.chance(5):
-            self.expect_nothing("come_home", self.office, copy.file, *(["--again"] if copy.times else []), why="holds commits")
+            self.expect_nothing(
+                "come_home", self.office, copy.file, *(["--again"] if copy.times else []), why="holds commits"
+            )
         if self.chance(5):
             alone = self.folder / f"alone_{self.count}.mmpkg"
             shutil.copyfile(copy.file, alone)
@@ -330,9 +363,15 @@ class Week:
             with open(folder / "conflicts.csv", encoding="utf-8", newline="") as opened:
                 rows = list(csv.reader(opened))[1:]
         words = collections.Counter({"row": "item", "media": "item"}.get(row[0], row[0]) for row in rows)
-        expect(words, collections.Counter(entry[0] for entry in conflicts), f"conflicts of {copy.file.name} that are listed: {rows}")
+        expect(
+            words,
+            collections.Counter(entry[0] for entry in conflicts),
+            f"conflicts of {copy.file.name} that are listed: {rows}",
+        )
         titles = {next(csv.reader([it]))[0] for row in rows if row[0] == "row" for it in row[2:5] if it}
-        missing = {entry for entry in conflicts if entry[0] == "item" and isinstance(entry[2], str) and entry[2] not in titles}
+        missing = {
+            entry for entry in conflicts if entry[0] == "item" and isinstance(entry[2], str) and entry[2] not in titles
+        }
         assert not missing, f"{missing} of {copy.file.name} are conflicts and not named: {rows}"
         if rows and self.chance(3):
             self.take_theirs(folder, conflicts)
@@ -351,8 +390,14 @@ class Week:
         """Brings a copy what the office changed."""
         numbers, own, office = numbers_of(self.office), numbers_of(copy.file), entries_of(self.office)
         taken = {(entry[1], number) for entry, number in own.items()} | copy.renumbered
-        strange = {it for it, number in numbers.items() if it not in copy.base and it not in own and (it[1], number) in taken}
-        hidden = {it for it in office if it in strange or (it[0] == "map" and {("item", "spots", it[2]), ("item", "photos", it[3])} & strange)}
+        strange = {
+            it for it, number in numbers.items() if it not in copy.base and it not in own and (it[1], number) in taken
+        }
+        hidden = {
+            it
+            for it in office
+            if it in strange or (it[0] == "map" and {("item", "spots", it[2]), ("item", "photos", it[3])} & strange)
+        }
         news = {entry: value for entry, value in office.items() if entry not in hidden}
         before = entries_of(copy.file)
         wanted, conflicts = by_the_rule(copy.base, news, before)
@@ -363,7 +408,9 @@ class Week:
         expect(entries_of(self.office), office, "the office's package behind news")
         for entry in copy.base.keys() | news.keys():
             if entry not in conflicts and news.get(entry) != copy.base.get(entry):
-                copy.base = {it: value for it, value in copy.base.items() if it != entry} | ({entry: news[entry]} if entry in news else {})
+                copy.base = {it: value for it, value in copy.base.items() if it != entry} | (
+                    {entry: news[entry]} if entry in news else {}
+                )
 
     # What is refused.
 
@@ -375,8 +422,16 @@ class Week:
         expect(self.files(), files, "files behind a refusal")
 
     def files(self):
-        found = {it: content_of(it) for it in sorted(self.folder.rglob("*")) if it.is_file() and not it.name.endswith(("-shm", "lock"))}
-        return {it.name: hashlib.sha256(data).hexdigest() for it, data in found.items() if data or not it.name.endswith("-wal")}
+        found = {
+            it: content_of(it)
+            for it in sorted(self.folder.rglob("*"))
+            if it.is_file() and not it.name.endswith(("-shm", "lock"))
+        }
+        return {
+            it.name: hashlib.sha256(data).hexdigest()
+            for it, data in found.items()
+            if data or not it.name.endswith("-wal")
+        }
 
     def mix_up(self):
         """Copies and packages that are given in wrong places, or twice."""
@@ -384,9 +439,16 @@ class Week:
         again = ["--again"] if copy.times else []
         backup = self.folder / "backup.mmpkg"
         shutil.copyfile(self.office, backup)
-        wrong = [((self.office, self.office), "is the office's package itself"), ((self.office, backup, *again), "is no copy that was handed out"),
-                 ((copy.file, self.office), "are the two in the wrong places?"), ((self.office, self.foreign), "of another project"),
-                 ((self.office, copy.file, *([] if copy.times else ["--again"])), "came home already" if copy.times else "never came home")]
+        wrong = [
+            ((self.office, self.office), "is the office's package itself"),
+            ((self.office, backup, *again), "is no copy that was handed out"),
+            ((copy.file, self.office), "are the two in the wrong places?"),
+            ((self.office, self.foreign), "of another project"),
+            (
+                (self.office, copy.file, *([] if copy.times else ["--again"])),
+                "came home already" if copy.times else "never came home",
+            ),
+        ]
         words, why = self.random.choice(wrong)
         self.expect_nothing("come_home", *words, why=why)
 
@@ -420,7 +482,11 @@ class Week:
 
 def expect_entries(found, wanted, what):
     """Two packages are equal, or what differs is told."""
-    differ = {entry: (found.get(entry), wanted.get(entry)) for entry in found.keys() | wanted.keys() if found.get(entry) != wanted.get(entry)}
+    differ = {
+        entry: (found.get(entry), wanted.get(entry))
+        for entry in found.keys() | wanted.keys()
+        if found.get(entry) != wanted.get(entry)
+    }
     assert not differ, f"{what}: by entry, what is found and what is wanted: {differ}"
 
 

@@ -1,14 +1,14 @@
 #!/usr/bin/env python3
-"""A picture of 100,000 x 100,000 pixels behind the work (tools/maps.py), or an MBTiles of some GB: how soon it is opened
-and drawn, and the memory.
+"""A picture of 100,000 x 100,000 pixels behind the work (tools/maps.py), or an MBTiles of some GB: how soon it is
+opened and drawn, and the memory.
 
     bench/behind.py [--folder FOLDER] [--side 10] [--mbtiles GB]
 
 The picture is a VRT over SIDE x SIDE GeoTIFFs of 10,000 x 10,000 pixels with overviews, as gdalbuildvrt makes it, with
 the line <OverviewList> that has GDAL use those. The GeoTIFFs are one file under as many names. The MBTiles has JPEG
-tiles of the zooms 10 to 17 about 9 degrees east and 50.5 north, all of one picture. Times are by the clock, of a program
-of maps that is started anew; its files are in the system's memory then, as far as that goes. Wants Debian's gdal-bin and
-python3-gdal. The last line is the peak of its memory.
+tiles of the zooms 10 to 17 about 9 degrees east and 50.5 north, all of one picture. Times are by the clock, of a
+program of maps that is started anew; its files are in the system's memory then, as far as that goes. Wants Debian's
+gdal-bin and python3-gdal. The last line is the peak of its memory.
 """
 
 import argparse
@@ -109,7 +109,9 @@ def make_mbtiles(folder, size):
         for zoom in range(10, 18):
             count, (column, row) = max(1, side >> (17 - zoom)), place_of(zoom)
             left, top = column - count // 2, row - count // 2
-            tiles = ((zoom, left + it % count, (1 << zoom) - 1 - top - it // count, data) for it in range(count * count))
+            tiles = (
+                (zoom, left + it % count, (1 << zoom) - 1 - top - it // count, data) for it in range(count * count)
+            )
             opened.executemany("INSERT INTO tiles VALUES (?, ?, ?, ?)", tiles)
         opened.execute("CREATE UNIQUE INDEX tile_index ON tiles (zoom_level, tile_column, tile_row)")
     return made
@@ -151,8 +153,11 @@ class Server:
 
 def tell(what, seconds):
     taken = sorted(1000 * it for it in seconds)
-    told = f"{taken[0]:.0f} ms" if len(taken) == 1 else (
-        f"{taken[0]:.0f} to {taken[-1]:.0f} ms, {statistics.median(taken):.0f} ms in the middle")
+    told = (
+        f"{taken[0]:.0f} ms"
+        if len(taken) == 1
+        else (f"{taken[0]:.0f} to {taken[-1]:.0f} ms, {statistics.median(taken):.0f} ms in the middle")
+    )
     print(f"{what}: {told}", flush=True)
 
 
@@ -164,13 +169,18 @@ def measure(picture, side):
     tell("the list", [seconds])
     middle = side * TILE // 2 // 256
     tell("the first part, pixel by pixel", [server.part(0.1, middle, middle)])
-    tell(f"{PARTS} parts side by side, pixel by pixel", [server.part(0.1, middle + it, 3) for it in range(1, PARTS + 1)])
+    tell(
+        f"{PARTS} parts side by side, pixel by pixel", [server.part(0.1, middle + it, 3) for it in range(1, PARTS + 1)]
+    )
     for pixel in (0.4, 1.6, 6.4, min(25.6, coarsest)):
         places = [(column, row) for row in range(3) for column in range(3)]
         count = max(1, min(3, int(side * TILE * 0.1 / pixel / 256)))
         tell(f"parts of {pixel:g} m a pixel", [server.part(pixel, *it) for it in places if max(it) < count])
     west, north = 500_000, 5_700_300
-    tell("10 parts in another system (EPSG:32632)", [server.part(0.1, 100 + it, 100, 32632, (west, north)) for it in range(10)])
+    tell(
+        "10 parts in another system (EPSG:32632)",
+        [server.part(0.1, 100 + it, 100, 32632, (west, north)) for it in range(10)],
+    )
     began = time.monotonic()
     with concurrent.futures.ThreadPoolExecutor(AT_ONCE) as asking:
         list(asking.map(lambda it: server.part(0.2, it % 8, 20 + it // 8), range(PARTS)))

@@ -3,8 +3,9 @@
 
     bench/blobs.py [--program out/mmpkg] [--tiles 10000] [--bytes 10000] [--folder FOLDER]
 
-Two packages are made: one whose tiles all differ, and one of which every second tile is the same blank one. Their sizes are told, the journal's too.
-Then each is checked, and sha256sum reads as many bytes as the first package has in its tiles: seconds a GB of each, and the peak memory of the check.
+Two packages are made: one whose tiles all differ, and one of which every second tile is the same blank one. Their sizes
+are told, the journal's too. Then each is checked, and sha256sum reads as many bytes as the first package has in its
+tiles: seconds a GB of each, and the peak memory of the check.
 """
 
 import os
@@ -33,11 +34,16 @@ def make(program, file, folder, tiles, size, is_blank):
 def main():
     asked = common.words_of(__doc__, tiles=(10000, "tiles"), bytes=(10000, "bytes of a tile"))
     with tempfile.TemporaryDirectory(dir=asked.folder) as folder:
-        for name, is_blank in (("all differ", lambda number: False), ("every second is blank", lambda number: number % 2 == 1)):
+        for name, is_blank in (
+            ("all differ", lambda number: False),
+            ("every second is blank", lambda number: number % 2 == 1),
+        ):
             file = os.path.join(folder, f"{name.replace(' ', '_')}.mmpkg")
             size = make(asked.program, file, folder, asked.tiles, asked.bytes, is_blank)
             seconds, peak = measured([asked.program, "check", file])
-            print(f"{name}: {size / 1e6:.1f} MB; check {seconds:.2f} s of processor time, {peak / 1024:.0f} MiB at most")
+            print(
+                f"{name}: {size / 1e6:.1f} MB; check {seconds:.2f} s of processor time, {peak / 1024:.0f} MiB at most"
+            )
         plain = os.path.join(folder, "plain")
         with open(plain, "wb") as out:
             for _ in range(asked.tiles):

@@ -3,10 +3,11 @@
 
     bench/check.py [--program out/mmpkg] [--tiles 100000] [--bytes 200] [--folder FOLDER]
 
-A package is filled with half the tiles, checked, filled with the rest, and checked again: processor seconds and peak memory, as
-/usr/bin/time tells them. SQLite's side, through Python's sqlite3 in a process of its own, does PRAGMA integrity_check, PRAGMA
-foreign_key_check and one scan that reads every tile. The check must take at most 2.3 times as long for twice the tiles, and its
-memory must not grow with their number. Opening the file is measured apart: the store then reads each page and checks its keys.
+A package is filled with half the tiles, checked, filled with the rest, and checked again: processor seconds and peak
+memory, as /usr/bin/time tells them. SQLite's side, through Python's sqlite3 in a process of its own, does PRAGMA
+integrity_check, PRAGMA foreign_key_check and one scan that reads every tile. The check must take at most 2.3 times as
+long for twice the tiles, and its memory must not grow with their number. Opening the file is measured apart: the store
+then reads each page and checks its keys.
 """
 
 import os
@@ -31,7 +32,13 @@ assert sum(len(row[4]) for row in database.execute("SELECT * FROM mm_tiles")) > 
 
 def measured(words, status=0):
     """Processor seconds and peak kilobytes of a command."""
-    done = subprocess.run(["/usr/bin/time", "-v", *words], stdin=subprocess.DEVNULL, stdout=subprocess.PIPE, stderr=subprocess.PIPE, check=False)
+    done = subprocess.run(
+        ["/usr/bin/time", "-v", *words],
+        stdin=subprocess.DEVNULL,
+        stdout=subprocess.PIPE,
+        stderr=subprocess.PIPE,
+        check=False,
+    )
     told = done.stderr.decode()
     if done.returncode != status:
         raise SystemExit(done.stdout.decode()[:400] + told[-400:])
@@ -70,7 +77,8 @@ def fill_other(file, start, end, size):
 
 
 def opening(program, file, folder):
-    """The same of opening alone: a copy whose profile row is that of another program is refused as soon as it is open."""
+    """The same of opening alone: a copy whose profile row is that of another program is refused as soon as it is
+    open."""
     copy = os.path.join(folder, "copy.mmpkg")
     shutil.copy(file, copy)
     database = sqlite3.connect(copy)
@@ -90,7 +98,9 @@ def new_package(given, folder):
 
 
 def main():
-    given = common.words_of(__doc__, tiles=(100000, "tiles in the end, at most 160,000"), bytes=(200, "bytes of a tile"))
+    given = common.words_of(
+        __doc__, tiles=(100000, "tiles in the end, at most 160,000"), bytes=(200, "bytes of a tile")
+    )
     with tempfile.TemporaryDirectory(dir=given.folder) as folder:
         file = new_package(given, folder)
         other = os.path.join(folder, "other.db")
@@ -102,8 +112,12 @@ def main():
             alone = min(opening(given.program, file, folder) for _ in range(3))
             theirs = measured([sys.executable, "-c", CHECKS, other])
             taken.append(ours)
-            print(f"{end} tiles: mmpkg {ours[0]:.2f} s, {ours[1]} KB, of which opening {alone[0]:.2f} s, {alone[1]} KB; SQLite {theirs[0]:.2f} s, {theirs[1]} KB")
-        print(f"twice the tiles: {taken[1][0] / max(taken[0][0], 0.01):.2f} times the seconds, {taken[1][1] / taken[0][1]:.2f} times the memory")
+            print(
+                f"{end} tiles: mmpkg {ours[0]:.2f} s, {ours[1]} KB, of which opening {alone[0]:.2f} s, {alone[1]} KB; SQLite {theirs[0]:.2f} s, {theirs[1]} KB"
+            )
+        print(
+            f"twice the tiles: {taken[1][0] / max(taken[0][0], 0.01):.2f} times the seconds, {taken[1][1] / taken[0][1]:.2f} times the memory"
+        )
 
 
 if __name__ == "__main__":

@@ -1,8 +1,9 @@
-"""What the benches share: the words of their command lines, the packages that they make, commands timed one by one, and the two sides.
+"""What the benches share: the words of their command lines, the packages that they make, commands timed one by one,
+and the two sides.
 
-The sides are mmpkg and bench/native.c, which does the same in C over the system's SQLite, once with SHA-256 and once without. Each is a
-list of words that 'run' or 'kit' and its words follow, so that both are run alike. What is compared is processor seconds, which the
-machine's other work and its disk change least.
+The sides are mmpkg and bench/native.c, which does the same in C over the system's SQLite, once with SHA-256 and once
+without. Each is a list of words that 'run' or 'kit' and its words follow, so that both are run alike. What is compared
+is processor seconds, which the machine's other work and its disk change least.
 """
 
 import argparse
@@ -19,7 +20,8 @@ PROGRAM = pathlib.Path(__file__).resolve().parent.parent / "out" / "mmpkg"
 
 
 def words_of(bench, **numbers):
-    """The words of a bench, whose documentation is its help: the program, the folder, and numbers, each by its default and what it counts."""
+    """The words of a bench, whose documentation is its help: the program, the folder, and numbers, each by its default
+    and what it counts."""
     words = argparse.ArgumentParser(description=bench, formatter_class=argparse.RawDescriptionHelpFormatter)
     words.add_argument("--program", default=str(PROGRAM), help="the program (default: out/mmpkg)")
     words.add_argument("--folder", help="where the files are made (default: the system's folder for such)")
@@ -41,14 +43,18 @@ def make_package(program, file, records=""):
     """Makes a package in a new file, with these records in it."""
     subprocess.run([program, "init", file], check=True, stdout=subprocess.DEVNULL)
     if records:
-        subprocess.run([program, "run", file, "--at", "0"], input=records.encode(), check=True, stdout=subprocess.DEVNULL)
+        subprocess.run(
+            [program, "run", file, "--at", "0"], input=records.encode(), check=True, stdout=subprocess.DEVNULL
+        )
 
 
 class Run:
     """A run that is sent records one by one, each when the last has been answered."""
 
     def __init__(self, program, file):
-        self.process = subprocess.Popen([program, "run", file, "--at", "0"], stdin=subprocess.PIPE, stdout=subprocess.PIPE)
+        self.process = subprocess.Popen(
+            [program, "run", file, "--at", "0"], stdin=subprocess.PIPE, stdout=subprocess.PIPE
+        )
 
     def __enter__(self):
         return self
@@ -117,7 +123,8 @@ def send(records, taker):
 
 
 def seconds_of_records(side, file, path):
-    """The processor seconds, and those of the clock, of all records of a list but the first; so opening and closing are in neither."""
+    """The processor seconds, and those of the clock, of all records of a list but the first; so opening and closing are
+    in neither."""
     with open(path, "rb") as records:
         more = sum(1 for _ in records) - 1
         records.seek(0)
@@ -147,7 +154,8 @@ def seconds_of_command(words, records=os.devnull):
 
 
 def tell_costs(what, costs):
-    """Prints what a record costs each side in microseconds of a processor, the least of each, and mmpkg's by that of the others."""
+    """Prints what a record costs each side in microseconds of a processor, the least of each, and mmpkg's by that of
+    the others."""
     least = {side: min(each) for side, each in costs.items()}
     print(f"{what}: " + ", ".join(f"{side} {1e6 * cost:.0f} us" for side, cost in least.items()))
     print(f"= {what}: " + " / ".join(f"{least['mmpkg'] / cost:.2f}" for side, cost in least.items() if side != "mmpkg"))

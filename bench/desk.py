@@ -1,11 +1,13 @@
 #!/usr/bin/env python3
-"""What a request of a day at the desk costs: by the clock, from the tap to the answer, and in processor time of the program that answers.
+"""What a request of a day at the desk costs: by the clock, from the tap to the answer, and in processor time of the
+program that answers.
 
     bench/desk.py [--program out/mmpkg] [--rows 1000] [--rounds 100] [--photo 300000] [--folder FOLDER]
 
-Asked are one row by POST, a row with a photo and its mapping row by one POST, a tile, and 1,000 rows, in a package of so many rows. Beside
-the desk stand `run`, which gets the same records, and `serve`, which is asked for the same tile; and Python's http.server over sqlite3,
-which decodes the same digits, keeps the same rows in SQLite with WAL and synchronous=FULL, and answers rows as JSON. The sides take turns.
+Asked are one row by POST, a row with a photo and its mapping row by one POST, a tile, and 1,000 rows, in a package of
+so many rows. Beside the desk stand `run`, which gets the same records, and `serve`, which is asked for the same tile;
+and Python's http.server over sqlite3, which decodes the same digits, keeps the same rows in SQLite with WAL and
+synchronous=FULL, and answers rows as JSON. The sides take turns.
 """
 
 import contextlib
@@ -109,14 +111,18 @@ class Listed:
 def made(file, rows):
     """A database of SQLite with the same tables, rows and tile."""
     with contextlib.closing(sqlite3.connect(file)) as connection:
-        connection.executescript("""
+        connection.executescript(
+            """
             PRAGMA journal_mode = WAL;
             CREATE TABLE tiles (name TEXT, zoom INTEGER, tile_column INTEGER, tile_row INTEGER, data BLOB, PRIMARY KEY (name, zoom, tile_column, tile_row));
             CREATE TABLE spots (id INTEGER PRIMARY KEY, title TEXT, note TEXT, amount INTEGER);
             CREATE TABLE photos (id INTEGER PRIMARY KEY, content_type TEXT, data BLOB);
-            CREATE TABLE shows (base_id INTEGER, related_id INTEGER, PRIMARY KEY (base_id, related_id));""")
+            CREATE TABLE shows (base_id INTEGER, related_id INTEGER, PRIMARY KEY (base_id, related_id));"""
+        )
         connection.execute("INSERT INTO tiles VALUES ('base', 0, 0, 0, ?)", (b"\x5a" * TILE_BYTES,))
-        connection.executemany("INSERT INTO spots VALUES (?, ?, 'by the road', ?)", ((it, f"Well {it}", it) for it in range(1, rows + 1)))
+        connection.executemany(
+            "INSERT INTO spots VALUES (?, ?, 'by the road', ?)", ((it, f"Well {it}", it) for it in range(1, rows + 1))
+        )
         connection.commit()
 
 
@@ -126,7 +132,9 @@ def taken(connection, record):
     if kind == "row":
         connection.execute("INSERT OR REPLACE INTO spots VALUES (?, ?, ?, ?)", fields)
     elif kind == "media":
-        connection.execute("INSERT OR REPLACE INTO photos VALUES (?, ?, ?)", (fields[0], fields[1], bytes.fromhex(fields[2])))
+        connection.execute(
+            "INSERT OR REPLACE INTO photos VALUES (?, ?, ?)", (fields[0], fields[1], bytes.fromhex(fields[2]))
+        )
     else:
         connection.execute("INSERT OR REPLACE INTO shows VALUES (?, ?)", fields)
     connection.commit()
@@ -155,9 +163,13 @@ def serve_python(file, port):
             _, what, name, *place = self.path.split("/")
             if what == "tiles":
                 key = (name, *map(int, place))
-                found = connection.execute("SELECT data FROM tiles WHERE name = ? AND zoom = ? AND tile_column = ? AND tile_row = ?", key).fetchone()
+                found = connection.execute(
+                    "SELECT data FROM tiles WHERE name = ? AND zoom = ? AND tile_column = ? AND tile_row = ?", key
+                ).fetchone()
                 return self.told("image/png", found[0])
-            rows = connection.execute("SELECT amount, id, note, title FROM spots WHERE id >= ? ORDER BY id LIMIT 1000", (int(place[0]),))
+            rows = connection.execute(
+                "SELECT amount, id, note, title FROM spots WHERE id >= ? ORDER BY id LIMIT 1000", (int(place[0]),)
+            )
             listed = [dict(zip(("amount", "id", "note", "title"), it)) for it in rows]
             return self.told("application/json", json.dumps(listed, separators=(",", ":")).encode())
 
@@ -179,7 +191,8 @@ def free_port():
 
 
 def timed(side, rounds, method, path, body):
-    """Seconds of the clock of each request, and processor seconds of one, of a side; the first request is not counted."""
+    """Seconds of the clock of each request, and processor seconds of one, of a side; the first request is not
+    counted."""
     side.ask(method, path, body(0))
     before, clock = side.seconds(), []
     for number in range(1, rounds + 1):
@@ -191,14 +204,23 @@ def timed(side, rounds, method, path, body):
 
 
 def tell(what, sides, rounds, method, path, body):
-    """Times one kind of request on the sides that know it, in turns of a tenth of the rounds, and prints what was found."""
+    """Times one kind of request on the sides that know it, in turns of a tenth of the rounds, and prints what was
+    found."""
     clock, taken_up = {name: [] for name in sides}, {name: [] for name in sides}
     for turn in range(10):
         for name, side in sides.items():
-            seconds, share = timed(side, max(1, rounds // 10), method, path, lambda it, turn=turn: body(turn * (rounds + 1) + it))
+            seconds, share = timed(
+                side, max(1, rounds // 10), method, path, lambda it, turn=turn: body(turn * (rounds + 1) + it)
+            )
             clock[name] += seconds
             taken_up[name].append(share)
-    print(f"{what}: " + ", ".join(f"{it} {1e3 * statistics.median(clock[it]):.2f} ms of the clock, {1e3 * min(taken_up[it]):.2f} ms of a processor" for it in sides))
+    print(
+        f"{what}: "
+        + ", ".join(
+            f"{it} {1e3 * statistics.median(clock[it]):.2f} ms of the clock, {1e3 * min(taken_up[it]):.2f} ms of a processor"
+            for it in sides
+        )
+    )
     others = [it for it in sides if it != "desk"]
     print(f"= {what}: " + " / ".join(f"{min(taken_up['desk']) / min(taken_up[it]):.2f} of {it}" for it in others))
 
@@ -206,7 +228,12 @@ def tell(what, sides, rounds, method, path, body):
 def main():
     if sys.argv[1:2] == ["--python"]:
         return serve_python(sys.argv[2], int(sys.argv[3]))
-    asked = common.words_of(__doc__, rows=(1000, "rows that stand"), rounds=(100, "requests of each kind"), photo=(300_000, "bytes of a photo"))
+    asked = common.words_of(
+        __doc__,
+        rows=(1000, "rows that stand"),
+        rounds=(100, "requests of each kind"),
+        photo=(300_000, "bytes of a photo"),
+    )
     with tempfile.TemporaryDirectory(dir=asked.folder) as folder:
         place = pathlib.Path(folder)
         common.make_package(asked.program, str(place / "desk.mmpkg"), "".join(records(asked.rows)))
@@ -214,16 +241,29 @@ def main():
             (place / f"{name}.mmpkg").write_bytes((place / "desk.mmpkg").read_bytes())
         made(place / "python.db", asked.rows)
         ports = {name: free_port() for name in ("desk", "serve", "python")}
-        words = {name: [asked.program, name, str(place / f"{name}.mmpkg"), "--port", str(ports[name]), "--count", str(MOST)] for name in ("desk", "serve")}
+        words = {
+            name: [asked.program, name, str(place / f"{name}.mmpkg"), "--port", str(ports[name]), "--count", str(MOST)]
+            for name in ("desk", "serve")
+        }
         words["python"] = [sys.executable, __file__, "--python", str(place / "python.db"), str(ports["python"])]
-        sides = {"desk": Server(words["desk"], ports["desk"], f"/{KEY}"), "run": Listed(asked.program, str(place / "run.mmpkg")),
-                 "serve": Server(words["serve"], ports["serve"]), "python": Server(words["python"], ports["python"])}
+        sides = {
+            "desk": Server(words["desk"], ports["desk"], f"/{KEY}"),
+            "run": Listed(asked.program, str(place / "run.mmpkg")),
+            "serve": Server(words["serve"], ports["serve"]),
+            "python": Server(words["python"], ports["python"]),
+        }
         some = {"write": ("desk", "run", "python"), "tile": ("desk", "serve", "python"), "rows": ("desk", "python")}
         of = {use: {name: sides[name] for name in names} for use, names in some.items()}
         first = 10 * MOST
         tell("one row", of["write"], asked.rounds, "POST", "/records", lambda it: row(first + it).encode())
-        tell(f"a row with a photo of {asked.photo} bytes", of["write"], asked.rounds, "POST", "/records",
-             lambda it: row_with_photo(2 * first + it, asked.photo).encode())
+        tell(
+            f"a row with a photo of {asked.photo} bytes",
+            of["write"],
+            asked.rounds,
+            "POST",
+            "/records",
+            lambda it: row_with_photo(2 * first + it, asked.photo).encode(),
+        )
         tell(f"a tile of {TILE_BYTES} bytes", of["tile"], asked.rounds, "GET", "/tiles/base/0/0/0", lambda it: b"")
         tell("1,000 rows", of["rows"], asked.rounds, "GET", "/rows/spots/1", lambda it: b"")
         for side in sides.values():

@@ -1,13 +1,14 @@
 #!/usr/bin/env python3
-"""An edition of tiles, staged and published, against C over SQLite doing the same looks and writes in one transaction; and the memory that it takes.
+"""An edition of tiles, staged and published, against C over SQLite doing the same looks and writes in one
+transaction; and the memory that it takes.
 
     bench/editions.py [--program out/mmpkg] [--rounds 5] [--folder FOLDER]
 
-4,096 tiles of 1 kB are staged, one command each, and then published behind a record of another kind, in some rounds, of which the least of
-each time counts. Opening and closing are in no time. To publish is, for each piece, to read its row, to look up the kind, the
-matrix, the piece's blob and the tile by their keys, to insert the tile and to set last_change; then the edition is published, the pieces
-are removed, and each of their blobs is asked for. Memory is the most that the program held (as `/usr/bin/time -v` tells it), for publishing
-512 and 4,096 pieces of 10 kB.
+4,096 tiles of 1 kB are staged, one command each, and then published behind a record of another kind, in some rounds, of
+which the least of each time counts. Opening and closing are in no time. To publish is, for each piece, to read its row,
+to look up the kind, the matrix, the piece's blob and the tile by their keys, to insert the tile and to set last_change;
+then the edition is published, the pieces are removed, and each of their blobs is asked for. Memory is the most that the
+program held (as `/usr/bin/time -v` tells it), for publishing 512 and 4,096 pieces of 10 kB.
 """
 
 import os
@@ -23,7 +24,9 @@ PIECES = 4096
 
 def stage_records(count, size):
     """The records that stage so many tiles of random bytes."""
-    return "".join(f"stage,spring,{n + 1},tile,base,0,{n % SIDE},{n // SIDE},{os.urandom(size).hex()}\n" for n in range(count))
+    return "".join(
+        f"stage,spring,{n + 1},tile,base,0,{n % SIDE},{n // SIDE},{os.urandom(size).hex()}\n" for n in range(count)
+    )
 
 
 def seconds_of(side, file, folder, records):
@@ -51,7 +54,9 @@ def memory_of_publishing(program, folder, count):
     file = os.path.join(folder, "memory.mmpkg")
     common.make_package(program, file, common.layout(SIDE) + "edition,spring\n" + stage_records(count, 10000))
     words = ["/usr/bin/time", "-v", program, "run", file, "--at", "0"]
-    done = subprocess.run(words, input=b"publish,spring\n", stdout=subprocess.DEVNULL, stderr=subprocess.PIPE, check=True)
+    done = subprocess.run(
+        words, input=b"publish,spring\n", stdout=subprocess.DEVNULL, stderr=subprocess.PIPE, check=True
+    )
     return int(re.search(rb"Maximum resident set size \(kbytes\): (\d+)", done.stderr)[1]) / 1024
 
 
@@ -61,11 +66,15 @@ def main():
     for _ in range(asked.rounds):
         with tempfile.TemporaryDirectory(dir=asked.folder) as folder:
             rounds.append(round_of(asked.program, folder))
-    common.tell_costs("staging a piece of 1,000 bytes", {side: [each[side][0] for each in rounds] for side in rounds[0]})
+    common.tell_costs(
+        "staging a piece of 1,000 bytes", {side: [each[side][0] for each in rounds] for side in rounds[0]}
+    )
     common.tell_costs("publishing a piece", {side: [each[side][1] for each in rounds] for side in ("mmpkg", "C")})
     for pieces in (512, 4096):
         with tempfile.TemporaryDirectory(dir=asked.folder) as folder:
-            print(f"publishing {pieces} pieces of 10 kB held {memory_of_publishing(asked.program, folder, pieces):.1f} MiB at most")
+            print(
+                f"publishing {pieces} pieces of 10 kB held {memory_of_publishing(asked.program, folder, pieces):.1f} MiB at most"
+            )
 
 
 if __name__ == "__main__":

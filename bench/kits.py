@@ -1,12 +1,13 @@
 #!/usr/bin/env python3
-"""The import of a kit, from nothing and again when all is staged, against C over SQLite doing the same reading, looks, writes and commits.
+"""The import of a kit, from nothing and again when all is staged, against C over SQLite doing the same reading,
+looks, writes and commits.
 
     bench/kits.py [--program out/mmpkg] [--tiles 4000] [--bytes 20000] [--rounds 5] [--folder FOLDER]
 
-A kit of tiles is imported into an open edition, one commit a piece, and then once more, which reads each file and compares it with the
-piece that stands. The edition, the piece and the one before it, and the blob of the bytes by their digest are looked up by their keys. What
-starting the program, and opening and closing the file as it stands before each import take, is measured by runs of no record and taken out.
-Of each time the least of the rounds counts.
+A kit of tiles is imported into an open edition, one commit a piece, and then once more, which reads each file and
+compares it with the piece that stands. The edition, the piece and the one before it, and the blob of the bytes by their
+digest are looked up by their keys. What starting the program, and opening and closing the file as it stands before each
+import take, is measured by runs of no record and taken out. Of each time the least of the rounds counts.
 """
 
 import os
@@ -38,7 +39,10 @@ def import_kit(side, file, kit, tiles):
 def round_of(program, folder, kit, tiles):
     """By the sides, the times of the import from nothing, and then of the one that finds each piece."""
     files = common.make_packages(program, folder, "edition,k\n")
-    return {side: [import_kit(words, files[side], kit, tiles) for _ in range(2)] for side, words in common.sides(program).items()}
+    return {
+        side: [import_kit(words, files[side], kit, tiles) for _ in range(2)]
+        for side, words in common.sides(program).items()
+    }
 
 
 def tell(what, asked, rounds, sides, turn):
@@ -52,7 +56,9 @@ def tell(what, asked, rounds, sides, turn):
 
 
 def main():
-    asked = common.words_of(__doc__, tiles=(4000, "tiles of the kit"), bytes=(20000, "bytes of a tile"), rounds=(5, "rounds"))
+    asked = common.words_of(
+        __doc__, tiles=(4000, "tiles of the kit"), bytes=(20000, "bytes of a tile"), rounds=(5, "rounds")
+    )
     rounds = []
     with tempfile.TemporaryDirectory(dir=asked.folder) as kit:
         make_kit(kit, asked.tiles, asked.bytes)

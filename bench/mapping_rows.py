@@ -3,8 +3,8 @@
 
     bench/mapping_rows.py [--program out/mmpkg] [--rows 10000] [--folder FOLDER]
 
-Each record is sent when the last has been answered, and timed alone. The first 1,000 `map` commands are compared with the last
-1,000 (medians). Then 100 rows that no mapping row names are dropped, and 100 media.
+Each record is sent when the last has been answered, and timed alone. The first 1,000 `map` commands are compared with
+the last 1,000 (medians). Then 100 rows that no mapping row names are dropped, and 100 media.
 """
 
 import os

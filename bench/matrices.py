@@ -3,9 +3,9 @@
 
     bench/matrices.py [--program out/mmpkg] [--pyramids 500] [--folder FOLDER]
 
-Each pyramid gets 31 matrices, in one of three orders: rising zooms, falling zooms, and inside out. The program answers each
-record before it reads the next, so each is sent when the last has been answered, and timed alone. The first 100 matrix
-commands are compared with the last 100: the time of one must not grow with what the package holds.
+Each pyramid gets 31 matrices, in one of three orders: rising zooms, falling zooms, and inside out. The program answers
+each record before it reads the next, so each is sent when the last has been answered, and timed alone. The first 100
+matrix commands are compared with the last 100: the time of one must not grow with what the package holds.
 """
 
 import os
@@ -17,7 +17,15 @@ import common
 # 31 numbers of tiles whose pixel sizes divide one extent, from the coarsest on.
 WIDTH = 3 << 29
 TILE = 16
-SIZES = sorted((size << power for size in (1, 3) for power in range(31) if size << power <= 10**9 and WIDTH % (size << power) == 0), reverse=True)[:31]
+SIZES = sorted(
+    (
+        size << power
+        for size in (1, 3)
+        for power in range(31)
+        if size << power <= 10**9 and WIDTH % (size << power) == 0
+    ),
+    reverse=True,
+)[:31]
 
 
 def inside_out(count):

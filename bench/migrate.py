@@ -3,8 +3,9 @@
 
     bench/migrate.py [--program out/mmpkg] [--tiles 100000] [--bytes 200] [--folder FOLDER]
 
-A package of one pyramid is filled, and put back to profile 1 by scripts/outside/make_profile_1.py. Printed are the processor seconds and the
-peak memory of `migrate`, of `migrate` again, which only checks, and of `check`; and how much of the file migrating changed.
+A package of one pyramid is filled, and put back to profile 1 by scripts/outside/make_profile_1.py. Printed are the
+processor seconds and the peak memory of `migrate`, of `migrate` again, which only checks, and of `check`; and how much
+of the file migrating changed.
 """
 
 import pathlib

@@ -41,7 +41,11 @@ def main():
         common.make_package(asked.program, file, "".join(records()))
         opened = [seconds([asked.program, "run", file, "--at", "0"]) for _ in range(asked.rounds)]
         started = [seconds([asked.program, "--help"]) for _ in range(asked.rounds)]
-    common.tell_figure("opening and closing a package of ten tables", 1e3 * (statistics.median(opened) - statistics.median(started)), " ms")
+    common.tell_figure(
+        "opening and closing a package of ten tables",
+        1e3 * (statistics.median(opened) - statistics.median(started)),
+        " ms",
+    )
 
 
 if __name__ == "__main__":

@@ -3,8 +3,9 @@
 
     bench/opening_large.py [--program out/mmpkg] [--megabytes 200] [--bytes 100000] [--folder FOLDER]
 
-A package is filled with tiles that all differ, and a run of no record opens and closes it. Told are MB a second of a processor, and of the
-clock, and the peak of memory, of each. Opening reads each page and checks its keys, hashes each blob, and asks the sixteen rules.
+A package is filled with tiles that all differ, and a run of no record opens and closes it. Told are MB a second of a
+processor, and of the clock, and the peak of memory, of each. Opening reads each page and checks its keys, hashes each
+blob, and asks the sixteen rules.
 """
 
 import os
@@ -20,7 +21,9 @@ from check import measured
 
 SIDE = 400
 # As a program of its own, so that its memory is its own.
-INTEGRITY = "import sqlite3, sys; assert sqlite3.connect(sys.argv[1]).execute('PRAGMA integrity_check').fetchone() == ('ok',)"
+INTEGRITY = (
+    "import sqlite3, sys; assert sqlite3.connect(sys.argv[1]).execute('PRAGMA integrity_check').fetchone() == ('ok',)"
+)
 
 
 def fill(program, file, tiles, size):
@@ -38,7 +41,9 @@ def told(what, words, megabytes):
     begin = time.perf_counter()
     seconds, peak = measured(words)
     clock = time.perf_counter() - begin
-    print(f"= {what}: {megabytes / seconds:.0f} MB a second of a processor, {megabytes / clock:.0f} of the clock, {peak / 1024:.0f} MiB at most")
+    print(
+        f"= {what}: {megabytes / seconds:.0f} MB a second of a processor, {megabytes / clock:.0f} of the clock, {peak / 1024:.0f} MiB at most"
+    )
 
 
 def main():

@@ -3,8 +3,8 @@
 
     bench/page.py [--program out/mmpkg] [--requests 2000] [--bytes 20000] [--rounds 5] [--port 18082] [--folder FOLDER]
 
-One client asks for the same tile, one connection a request. The two servers take turns for some rounds, each on the same package
-file; Python's reads the tile by its key from the same table. What is compared is the median of the rounds.
+One client asks for the same tile, one connection a request. The two servers take turns for some rounds, each on the
+same package file; Python's reads the tile by its key from the same table. What is compared is the median of the rounds.
 """
 
 import http.server
@@ -30,7 +30,8 @@ def python_server(file, port, ready):
             _, _, table, zoom, column, row = self.path.split("/")
             found = connection.execute(
                 "SELECT tile_data FROM mm_tiles WHERE table_name = ? AND zoom_level = ? AND tile_column = ? AND tile_row = ?",
-                (table, int(zoom), int(column), int(row))).fetchone()
+                (table, int(zoom), int(column), int(row)),
+            ).fetchone()
             self.send_response(200)
             self.send_header("Content-Type", "application/octet-stream")
             self.send_header("Content-Length", str(len(found[0])))
@@ -58,7 +59,9 @@ def ask(port, requests, size):
 
 
 def time_ours(program, file, port, requests, size):
-    with subprocess.Popen([program, "serve", file, "--port", str(port), "--count", str(requests)], stdout=subprocess.PIPE) as server:
+    with subprocess.Popen(
+        [program, "serve", file, "--port", str(port), "--count", str(requests)], stdout=subprocess.PIPE
+    ) as server:
         assert server.stdout.readline().startswith(b"serving ")
         rate = ask(port, requests, size)
         assert server.wait() == 0
@@ -77,16 +80,23 @@ def time_python(file, port, requests, size):
 
 
 def main():
-    given = common.words_of(__doc__, requests=(2000, "requests in a round"), bytes=(20000, "bytes of the tile"), rounds=(5, "rounds of each side"),
-                            port=(18082, "the first of the ports, one for each round of each side"))
+    given = common.words_of(
+        __doc__,
+        requests=(2000, "requests in a round"),
+        bytes=(20000, "bytes of the tile"),
+        rounds=(5, "rounds of each side"),
+        port=(18082, "the first of the ports, one for each round of each side"),
+    )
     with tempfile.TemporaryDirectory(dir=given.folder) as folder:
         file = str(pathlib.Path(folder) / "a.mmpkg")
         common.make_package(given.program, file, common.layout(1) + f"tile,base,0,0,0,{'5a' * given.bytes}\n")
         # Python's SQLite reads a copy of the rows, since the package's own journal is not SQLite's.
         copy = str(pathlib.Path(folder) / "copy.db")
         with sqlite3.connect(copy) as connection:
-            connection.execute("CREATE TABLE mm_tiles (table_name TEXT, zoom_level INTEGER, tile_column INTEGER, tile_row INTEGER, tile_data BLOB,"
-                               " PRIMARY KEY (table_name, zoom_level, tile_column, tile_row)) STRICT")
+            connection.execute(
+                "CREATE TABLE mm_tiles (table_name TEXT, zoom_level INTEGER, tile_column INTEGER, tile_row INTEGER, tile_data BLOB,"
+                " PRIMARY KEY (table_name, zoom_level, tile_column, tile_row)) STRICT"
+            )
             connection.execute("INSERT INTO mm_tiles VALUES ('base', 0, 0, 0, ?)", (b"\x5a" * given.bytes,))
         ours, theirs = [], []
         for number in range(given.rounds):
@@ -94,8 +104,10 @@ def main():
             theirs.append(time_python(copy, given.port + 2 * number + 1, given.requests, given.bytes))
             print(f"round {number + 1}: mmpkg {ours[-1]:.0f}, Python {theirs[-1]:.0f} requests a second")
         ratios = [one / other for one, other in zip(ours, theirs)]
-        print(f"median: mmpkg {statistics.median(ours):.0f}, Python {statistics.median(theirs):.0f}; ratio {statistics.median(ratios):.2f}"
-              f" ({min(ratios):.2f} .. {max(ratios):.2f})")
+        print(
+            f"median: mmpkg {statistics.median(ours):.0f}, Python {statistics.median(theirs):.0f}; ratio {statistics.median(ratios):.2f}"
+            f" ({min(ratios):.2f} .. {max(ratios):.2f})"
+        )
 
 
 if __name__ == "__main__":

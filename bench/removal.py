@@ -3,8 +3,9 @@
 
     bench/removal.py [--program out/mmpkg] [--bytes 10000] [--folder FOLDER]
 
-A table of 16,000 tiles is dropped, and an edition of 4,096 tiles is discarded, and another is published; the tiles all differ. Each is one transaction. Told is the most
-that the program held, for a run of no record and for the run of the one record.
+A table of 16,000 tiles is dropped, and an edition of 4,096 tiles is discarded, and another is published; the tiles all
+differ. Each is one transaction. Told is the most that the program held, for a run of no record and for the run of the
+one record.
 """
 
 import os
@@ -41,11 +42,15 @@ def main():
         with tempfile.TemporaryDirectory(dir=asked.folder) as folder:
             file = os.path.join(folder, "removal.mmpkg")
             common.make_package(asked.program, file, common.layout(SIDE))
-            with subprocess.Popen([asked.program, "run", file, "--at", "0"], stdin=subprocess.PIPE, stdout=subprocess.DEVNULL, text=True) as run:
+            with subprocess.Popen(
+                [asked.program, "run", file, "--at", "0"], stdin=subprocess.PIPE, stdout=subprocess.DEVNULL, text=True
+            ) as run:
                 run.stdin.writelines(records_of(what, asked.bytes))
                 run.stdin.close()
             size, opening = os.path.getsize(file) / 1e6, held(asked.program, file, folder, "")
-            print(f"{what}: a file of {size:.0f} MB; {opening:.1f} MiB to open and close it, {held(asked.program, file, folder, what + chr(10)):.1f} MiB with the command")
+            print(
+                f"{what}: a file of {size:.0f} MB; {opening:.1f} MiB to open and close it, {held(asked.program, file, folder, what + chr(10)):.1f} MiB with the command"
+            )
 
 
 if __name__ == "__main__":

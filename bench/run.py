@@ -3,10 +3,10 @@
 
     bench/run.py [--program out/mmpkg] [--records 2000] [--rounds 9] [--folder FOLDER]
 
-Each record is one commit: a look by the primary key, an insert, and a commit that is synced. Both sides read the records from standard
-input and write a line for each, in files that were equal; opening and closing are in no time. The sides take turns, and the least of the
-rounds counts on each. Printed too are the commits a second by the clock, and what two synced writes take against one on the same disk with
-no database at all.
+Each record is one commit: a look by the primary key, an insert, and a commit that is synced. Both sides read the
+records from standard input and write a line for each, in files that were equal; opening and closing are in no time. The
+sides take turns, and the least of the rounds counts on each. Printed too are the commits a second by the clock, and
+what two synced writes take against one on the same disk with no database at all.
 """
 
 import os
@@ -21,7 +21,9 @@ def write_records(path, count):
     """Writes the records of so many reference systems."""
     with open(path, "w") as out:
         for number in range(count):
-            out.write(f"srs,{100000 + number},System {number},NONE,{number + 1},projected metres,a system of the bench\n")
+            out.write(
+                f"srs,{100000 + number},System {number},NONE,{number + 1},projected metres,a system of the bench\n"
+            )
 
 
 def time_syncs(folder, count, syncs):
@@ -42,7 +44,11 @@ def round_of(program, folder, records):
     path = os.path.join(folder, "records.csv")
     write_records(path, records)
     files = common.make_packages(program, folder)
-    return {side: common.seconds_of_records(words, files[side], path) for side, words in common.sides(program).items() if side in ("mmpkg", "C")}
+    return {
+        side: common.seconds_of_records(words, files[side], path)
+        for side, words in common.sides(program).items()
+        if side in ("mmpkg", "C")
+    }
 
 
 def main():

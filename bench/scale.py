@@ -3,10 +3,11 @@
 
     bench/scale.py [--program out/mmpkg] [--most 100000] [--records 100] [--rounds 3] [--folder FOLDER]
 
-Each package is filled by the program itself. Then each command is given so many times, each record sent when the last has been answered
-and timed alone, to one package after the other, so that a machine that grows slower does so for all three; its median is taken. In each round the
-packages are as they were filled. Printed are the medians of the rounds, and the cost in the largest package against that in the smallest, which is to
-be at most 1.2: a command finds its rows by a key.
+Each package is filled by the program itself. Then each command is given so many times, each record sent when the last
+has been answered and timed alone, to one package after the other, so that a machine that grows slower does so for all
+three; its median is taken. In each round the packages are as they were filled. Printed are the medians of the rounds,
+and the cost in the largest package against that in the smallest, which is to be at most 1.2: a command finds its rows
+by a key.
 """
 
 import contextlib
@@ -84,11 +85,19 @@ def of_editions(count, records):
 
 
 def medians(program, filled, records):
-    """The median seconds of each command in a copy of each package, by kind and entries; the packages take turns, a record each."""
-    asked = {count: [*of_entries(count, records), *of_tables(records), *of_editions(count, records)] for count in filled}
+    """The median seconds of each command in a copy of each package, by kind and entries; the packages take turns, a
+    record each."""
+    asked = {
+        count: [*of_entries(count, records), *of_tables(records), *of_editions(count, records)] for count in filled
+    }
     times = {}
-    with tempfile.TemporaryDirectory(dir=os.path.dirname(next(iter(filled.values())))) as folder, contextlib.ExitStack() as opened:
-        runs = {count: opened.enter_context(common.Run(program, shutil.copy(file, folder))) for count, file in filled.items()}
+    with tempfile.TemporaryDirectory(
+        dir=os.path.dirname(next(iter(filled.values())))
+    ) as folder, contextlib.ExitStack() as opened:
+        runs = {
+            count: opened.enter_context(common.Run(program, shutil.copy(file, folder)))
+            for count, file in filled.items()
+        }
         for together in zip(*asked.values()):
             for (count, run), (record, kind) in zip(runs.items(), together):
                 times.setdefault((kind, count), []).append(run.seconds_of(record))
@@ -96,8 +105,12 @@ def medians(program, filled, records):
 
 
 def main():
-    asked = common.words_of(__doc__, most=(100000, f"entries of each sort in the largest package, at most {MOST:,}"),
-                            records=(100, "records of each command in a round"), rounds=(3, "rounds"))
+    asked = common.words_of(
+        __doc__,
+        most=(100000, f"entries of each sort in the largest package, at most {MOST:,}"),
+        records=(100, "records of each command in a round"),
+        rounds=(3, "rounds"),
+    )
     sizes = [asked.most // 100, asked.most // 10, asked.most]
     times = {}
     with tempfile.TemporaryDirectory(dir=asked.folder) as folder:
@@ -107,10 +120,18 @@ def main():
         for _ in range(asked.rounds):
             for (kind, count), seconds in medians(asked.program, filled, asked.records).items():
                 times.setdefault(kind, {}).setdefault(count, []).append(seconds)
-    print("| command | " + " | ".join(f"{count:,}" for count in sizes) + " | last to first |\n" + "|---" * (len(sizes) + 2) + "|")
+    print(
+        "| command | "
+        + " | ".join(f"{count:,}" for count in sizes)
+        + " | last to first |\n"
+        + "|---" * (len(sizes) + 2)
+        + "|"
+    )
     for kind, by_size in times.items():
         costs = [statistics.median(by_size[count]) for count in sizes]
-        print(f"| {kind} | " + " | ".join(f"{1e6 * cost:.0f} us" for cost in costs) + f" | {costs[-1] / costs[0]:.2f} |")
+        print(
+            f"| {kind} | " + " | ".join(f"{1e6 * cost:.0f} us" for cost in costs) + f" | {costs[-1] / costs[0]:.2f} |"
+        )
 
 
 if __name__ == "__main__":

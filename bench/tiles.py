@@ -3,10 +3,11 @@
 
     bench/tiles.py [--program out/mmpkg] [--lists 10] [--tiles 2000] [--bytes 10000] [--folder FOLDER]
 
-Each list of tiles is one run of each side, read from a file that is written beforehand; opening and closing are in no time. A tile is a
-commit: the kind, the matrix, the blob of the bytes by their digest and the tile are looked up by their keys, the blob and the tile are
-inserted, and last_change is set. The sides take turns, list by list, and the least of the lists counts on each. The last list is compared
-with the first: a tile must not cost more as the package fills.
+Each list of tiles is one run of each side, read from a file that is written beforehand; opening and closing are in no
+time. A tile is a commit: the kind, the matrix, the blob of the bytes by their digest and the tile are looked up by
+their keys, the blob and the tile are inserted, and last_change is set. The sides take turns, list by list, and the
+least of the lists counts on each. The last list is compared with the first: a tile must not cost more as the package
+fills.
 """
 
 import os
@@ -25,7 +26,9 @@ def write_records(path, start, count, size):
 
 
 def main():
-    asked = common.words_of(__doc__, lists=(10, "lists of tiles"), tiles=(2000, "tiles in a list"), bytes=(10000, "bytes of a tile"))
+    asked = common.words_of(
+        __doc__, lists=(10, "lists of tiles"), tiles=(2000, "tiles in a list"), bytes=(10000, "bytes of a tile")
+    )
     sides = common.sides(asked.program)
     costs = {side: [] for side in sides}
     with tempfile.TemporaryDirectory(dir=asked.folder) as folder:

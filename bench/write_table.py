@@ -1,6 +1,7 @@
 #!/usr/bin/env python3
-"""Writes the tables of bench/README.md from what the benches printed: the figures on a disk in memory, those on a real disk, and what each
-command costs as a package grows. A figure with two numbers is beside C with SHA-256 / without.
+"""Writes the tables of bench/README.md from what the benches printed: the figures on a disk in memory, those on a
+real disk, and what each command costs as a package grows. A figure with two numbers is beside C with SHA-256 /
+without.
 
     bench/write_table.py MEMORY DISK SCALE
 """

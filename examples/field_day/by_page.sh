@@ -1,7 +1,8 @@
 #!/usr/bin/env bash
-# The day of two crews by the page: each opens its copy of the office's package by tools/crew.py, and adds, changes and removes rows with places
-# and photos by the page's forms in headless Chromium, while the program is killed ten times and the browser twice. In the evening both crews'
-# work comes home, goes out as points, and GDAL finds each row at its place. Prints each command with its output.
+# The day of two crews by the page: each opens its copy of the office's package by tools/crew.py, and adds, changes and removes rows with places,
+# photos, a PDF, a sound and values of the office's form by the page's forms in headless Chromium, while the program is killed ten times and the
+# browser twice. In the evening both crews' work comes home, goes out as points with columns, and GDAL finds each row at its place. Prints each
+# command with its output.
 #
 #     examples/field_day/by_page.sh FOLDER
 #
@@ -30,9 +31,11 @@ show "mmpkg list office.mmpkg | awk '{ print \$1, \$2, \$3 }' | marks"
 show 'mmpkg check office.mmpkg'
 
 echo
-echo "Out to GDAL as points with photos."
-show 'export_standard.py office.mmpkg out.gpkg --points spots 2>&1 | marks'
+echo "Out to GDAL as points with photos and files, and with the words of their notes as columns."
+show 'export_standard.py office.mmpkg out.gpkg --points spots --columns spots 2>&1 | marks'
 show 'ogrinfo -q out.gpkg | grep spots'
+show 'ogrinfo -so out.gpkg spots | grep -E "^[a-z]+: (Int|Real|Str)"'
+show "ogrinfo -q -sql 'SELECT content_type, count(*) AS items FROM photos GROUP BY content_type' out.gpkg | grep ' = '"
 show 'ogr2ogr -f CSV -lco GEOMETRY=AS_XY seen.csv out.gpkg spots'
 show 'crew_day.py compare seen.csv north.json south.json'
 show 'crew_day.py look office.mmpkg "Spring north 1" page.png'

@@ -4,9 +4,10 @@
     killed.py run FILE LIST SEED MOMENT              of 'mmpkg run FILE --at MOMENT < LIST': rows, media and tiles of keys of their own
     killed.py kit FILE EDITION FOLDER SEED MOMENT    of 'mmpkg kit FILE EDITION FOLDER --at MOMENT'
 
-Each kill comes at a random moment, by SEED and by how quick the machine is. Behind each one a copy of FILE and its journal has to pass
-'mmpkg check', and has to have what was answered 'N ok', and of the rest at most the one record that was under way; of a kit, the first pieces of
-its list, none fewer than before. Then the program goes on where it stood. The end of the work is left to who called.
+Each kill comes at a random moment, by SEED and by how quick the machine is. Behind each one a copy of FILE and its
+journal has to pass 'mmpkg check', and has to have what was answered 'N ok', and of the rest at most the one record that
+was under way; of a kit, the first pieces of its list, none fewer than before. Then the program goes on where it stood.
+The end of the work is left to who called.
 """
 
 import contextlib
@@ -31,14 +32,19 @@ BYTES = "(SELECT data FROM mm_blobs b WHERE b.id = blob)"
 QUERIES = {
     "row": (3, "SELECT title, note, amount FROM mm_rows WHERE table_name = ? AND id = ?"),
     "media": (3, f"SELECT content_type, lower(hex({BYTES})) FROM mm_media WHERE table_name = ? AND id = ?"),
-    "tile": (5, f"SELECT lower(hex({BYTES})) FROM mm_tiles WHERE table_name = ? AND zoom_level = ? AND tile_column = ? AND tile_row = ?"),
+    "tile": (
+        5,
+        f"SELECT lower(hex({BYTES})) FROM mm_tiles WHERE table_name = ? AND zoom_level = ? AND tile_column = ? AND tile_row = ?",
+    ),
 }
 
 
 @contextlib.contextmanager
 def opened(file):
     """A copy that the program found whole."""
-    with tempfile.TemporaryDirectory() as folder, contextlib.closing(sqlite3.connect(checked_copy(file, pathlib.Path(folder)))) as copy:
+    with tempfile.TemporaryDirectory() as folder, contextlib.closing(
+        sqlite3.connect(checked_copy(file, pathlib.Path(folder)))
+    ) as copy:
         yield copy
 
 
@@ -52,15 +58,17 @@ def expect_first_part(file, records, answered):
     """The package has each record that was answered, and of the others at most the next."""
     with opened(file) as copy:
         there = [stands(copy, fields) for fields in records]
-    assert all(there[:answered]), f"of {answered} records that were answered these are lost: {[n for n in range(answered) if not there[n]]}"
-    assert not any(there[answered + 1:]), "a record is there that was not begun"
+    assert all(
+        there[:answered]
+    ), f"of {answered} records that were answered these are lost: {[n for n in range(answered) if not there[n]]}"
+    assert not any(there[answered + 1 :]), "a record is there that was not begun"
 
 
 def feed(pipe, data):
     """Gives a process its list, and leaves the list open, so that the process doesn't end by itself."""
     with contextlib.suppress(BrokenPipeError):
         while data:
-            data = data[os.write(pipe.fileno(), data):]
+            data = data[os.write(pipe.fileno(), data) :]
 
 
 def answers_until_killed(command, data, least, dice):
@@ -86,7 +94,9 @@ def kill_runs(file, listed, seed, moment):
     dice, answered = random.Random(int(seed)), 0
     for left in range(KILLS, 0, -1):
         least = dice.randint(1, max(1, (len(records) - answered) // left)) if answered < len(records) else 0
-        answered += answers_until_killed([program(), "run", file, "--at", moment], b"".join(lines[answered:]), least, dice)
+        answered += answers_until_killed(
+            [program(), "run", file, "--at", moment], b"".join(lines[answered:]), least, dice
+        )
         expect_first_part(file, records, answered)
     print(f"killed {KILLS} times: nothing that was answered was lost")
 
@@ -94,14 +104,17 @@ def kill_runs(file, listed, seed, moment):
 def staged(file, edition, records):
     """How many pieces an edition has, which are the first of a kit's list."""
     with opened(file) as copy:
-        pieces = copy.execute("SELECT piece_no, kind, name, k1 FROM mm_pieces WHERE edition = ? ORDER BY piece_no", (edition,)).fetchall()
-    wanted = [(int(fields[0]), fields[1], fields[2], int(fields[3])) for fields in records[:len(pieces)]]
+        pieces = copy.execute(
+            "SELECT piece_no, kind, name, k1 FROM mm_pieces WHERE edition = ? ORDER BY piece_no", (edition,)
+        ).fetchall()
+    wanted = [(int(fields[0]), fields[1], fields[2], int(fields[3])) for fields in records[: len(pieces)]]
     assert pieces == wanted, f"the pieces are {pieces}"
     return len(pieces)
 
 
 def kill_in_kit(command, journal, changes, dice):
-    """Takes a kit in, kills the program a moment after some changes of its journal, and returns whether it was still at work."""
+    """Takes a kit in, kills the program a moment after some changes of its journal, and returns whether it was still at
+    work."""
     with subprocess.Popen(command, stdout=subprocess.DEVNULL) as running:
         moment = journal.stat().st_mtime_ns
         while changes and running.poll() is None:

@@ -3,7 +3,8 @@
 
     look.py FILE SPOT OUT.png      the whole map at 900 by 600, and beside it what the spot is related to
 
-Where Chromium, or what drives it (scripts/outside/devtools.py), isn't there, that is told on standard error and nothing is made.
+Where Chromium, or what drives it (scripts/outside/devtools.py), isn't there, that is told on standard error and nothing
+is made.
 """
 
 import contextlib
@@ -18,8 +19,10 @@ TOP = pathlib.Path(__file__).resolve().parents[2]
 sys.path[:0] = [str(TOP / "tools"), str(TOP / "scripts" / "outside")]
 from border import program  # noqa: E402
 
-SETTLED = ("document.readyState === 'complete' && typeof byId === 'function' && byId('tables').children.length > 0 && "
-           "!document.querySelector('img.leaflet-tile:not(.leaflet-tile-loaded), .leaflet-zoom-anim, .leaflet-pan-anim')")
+SETTLED = (
+    "document.readyState === 'complete' && typeof byId === 'function' && byId('tables').children.length > 0 && "
+    "!document.querySelector('img.leaflet-tile:not(.leaflet-tile-loaded), .leaflet-zoom-anim, .leaflet-pan-anim')"
+)
 
 
 @contextlib.contextmanager
@@ -28,7 +31,9 @@ def served(file):
     with socket.socket() as it:
         it.bind(("127.0.0.1", 0))
         port = str(it.getsockname()[1])
-    serving = subprocess.Popen(["timeout", "120", program(), "serve", file, "--port", port, "--count", "100000"], stdout=subprocess.PIPE)
+    serving = subprocess.Popen(
+        ["timeout", "120", program(), "serve", file, "--port", port, "--count", "100000"], stdout=subprocess.PIPE
+    )
     try:
         assert serving.stdout.readline().decode() == f"serving 127.0.0.1:{port}\n", "the package isn't served"
         yield f"http://127.0.0.1:{port}"
@@ -42,7 +47,9 @@ def seen(browser, address, spot):
     page.wait(SETTLED)
     page.value("byId('map').classList.remove('centre'); 0")
     page.value(f"byId('table').value = 'spots'; byId('number').value = '{spot}'; byId('form').requestSubmit(); 0")
-    page.wait("byId('related').children.length > 0 && [...document.querySelectorAll('#related img')].every(it => it.complete)")
+    page.wait(
+        "byId('related').children.length > 0 && [...document.querySelectorAll('#related img')].every(it => it.complete)"
+    )
     page.wait(SETTLED)
     page.value("new Promise(done => requestAnimationFrame(() => requestAnimationFrame(() => done(1))))")
     return page.screenshot()
@@ -57,7 +64,9 @@ def main(file, spot, out):
     if not shutil.which("chromium"):
         print(f"{out}: not shown: there is no Chromium (apt-get install chromium)", file=sys.stderr)
         return
-    with tempfile.TemporaryDirectory() as profile, served(file) as address, devtools.Browser("chromium", profile) as browser:
+    with tempfile.TemporaryDirectory() as profile, served(file) as address, devtools.Browser(
+        "chromium", profile
+    ) as browser:
         pathlib.Path(out).write_bytes(seen(browser, address, spot))
 
 

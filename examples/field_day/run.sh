@@ -65,10 +65,17 @@ show "mmpkg list office.mmpkg | awk '{ print \$1, \$2, \$3 }' | marks"
 show 'look.py office.mmpkg 11 after.png'
 
 echo
-echo "Out to GDAL, which finds the colours of both crews and what they wrote."
-show 'export_standard.py office.mmpkg out.gpkg 2>&1 | marks'
+echo "What stands there of the form that the office laid out: its fields, and a row with what the device told, their values, and who saved it."
+show 'mmpkg show office.mmpkg forms'
+show 'mmpkg show office.mmpkg spots 4'
+
+echo
+echo "Out to GDAL, which finds the colours of both crews and what they wrote, word by word in columns; and to files, with the PDF and the sound."
+show 'export_standard.py office.mmpkg out.gpkg --columns spots --photos files 2>&1 | marks'
 show "gdalinfo -nomd out.gpkg | grep -E '^(Driver|Size|Origin|Pixel Size)'"
 show 'gdallocationinfo -valonly -geoloc out.gpkg 501210 5601640 | paste -sd " "'
 show 'gdallocationinfo -valonly -geoloc out.gpkg 500610 5600560 | paste -sd " "'
 show "ogrinfo -q -where 'id IN (4, 7, 9, 149, 249)' out.gpkg spots | grep ' = '"
-show "ogrinfo -so out.gpkg photos | grep Count"
+show "ogrinfo -q -sql 'SELECT content_type, count(*) AS items FROM photos GROUP BY content_type' out.gpkg | grep ' = '"
+show "grep -E 'spots/Boundary_stone_([1289]|10)-' files/photos.csv"
+show 'cmp files/spots/Boundary_stone_1-1_2.pdf <(land.py paper "Boundary stone 1") && echo the same'

@@ -8,7 +8,9 @@ from package_views import compact, page, respond, response
 MOST_BODY_BYTES = 16_777_216
 MOST_ROWS = 1000
 GO_ON = b"HTTP/1.1 100 Continue\r\n\r\n"
-ANSWERS_HEAD = b"HTTP/1.1 200 OK\r\nContent-Type: text/plain\r\nX-Content-Type-Options: nosniff\r\nConnection: close\r\n\r\n"
+ANSWERS_HEAD = (
+    b"HTTP/1.1 200 OK\r\nContent-Type: text/plain\r\nX-Content-Type-Options: nosniff\r\nConnection: close\r\n\r\n"
+)
 REASONS = {
     400: "Bad Request", 403: "Forbidden", 404: "Not Found", 405: "Method Not Allowed", 411: "Length Required", 413: "Payload Too Large",
     415: "Unsupported Media Type",
@@ -55,7 +57,12 @@ class Desk:
             return self.show(package, asked[1]), False
         if asked[0] == "end":
             return response("200 OK"), True
-        waits = GO_ON if minor == 1 and "100-continue" in [it.strip().lower() for it in ",".join(values(fields, "expect")).split(",")] else b""
+        waits = (
+            GO_ON
+            if minor == 1
+            and "100-continue" in [it.strip().lower() for it in ",".join(values(fields, "expect")).split(",")]
+            else b""
+        )
         if len(body) < asked[1]:
             return waits + refusal(400), False
         return waits + ANSWERS_HEAD + answer_lines(package, body[: asked[1]], moment), False
@@ -113,6 +120,8 @@ def rows_page(package, keys):
     (table, first), against = read_fields((NAME, ITEM), keys)
     if against or package.kind(table) != "attributes":
         return refusal(404)
-    found = sorted((number, row) for (name, number), row in package.rows.items() if name == table and number >= first)[:MOST_ROWS]
+    found = sorted((number, row) for (name, number), row in package.rows.items() if name == table and number >= first)[
+        :MOST_ROWS
+    ]
     told = [{"amount": amount, "id": number, "note": note, "title": title} for number, (title, note, amount) in found]
     return response("200 OK", "Content-Type: application/json\r\n", compact(told))

@@ -1,7 +1,8 @@
-"""What a package becomes that was changed in two places, from docs/BORDER.md alone, over the dictionaries of the model.
+"""What a package becomes that was changed in two places, from docs/BORDER.md alone, over the dictionaries of the
+model.
 
-It shares no code with tools/kit_between.py, and takes the rule as it is written: each change is held against every entry. An entry is the word
-of a part with a key, and its value; bytes are themselves here.
+It shares no code with tools/kit_between.py, and takes the rule as it is written: each change is held against every
+entry. An entry is the word of a part with a key, and its value; bytes are themselves here.
 """
 
 from package_model import Package, in_order
@@ -86,7 +87,10 @@ def suits_others(entry, value, result):
     if part == "matrix" and ("table", key[0]) in result:
         others = [(other[2], it) for other, it in result.items() if other[:2] == entry[:2] and other != entry]
         kind = result["table", key[0]][0]
-        return all(in_order(kind, *low, *high) for low, high in (sorted([(key[1], value), it], key=lambda at: at[0]) for it in others))
+        return all(
+            in_order(kind, *low, *high)
+            for low, high in (sorted([(key[1], value), it], key=lambda at: at[0]) for it in others)
+        )
     return True
 
 
@@ -98,17 +102,23 @@ def can_be_made(entry, after, other, result, conflicts):
     if any(it in conflicts or matters(result.get(it)) != matters(after.get(it)) for it, matters in below(entry, value)):
         return False
     for above, it in result.items():
-        if it != after.get(above) and any(on == entry and matters(value) != matters(other.get(entry)) for on, matters in below(above, it)):
+        if it != after.get(above) and any(
+            on == entry and matters(value) != matters(other.get(entry)) for on, matters in below(above, it)
+        ):
             return False
     return value is None or suits_others(entry, value, result)
 
 
 def by_the_rule(before, after, other):
     """What OTHER becomes with the changes from BEFORE to AFTER, and the entries that are conflicts."""
-    changed = {entry for entry in before.keys() | after.keys() if after.get(entry) not in (before.get(entry), other.get(entry))}
+    changed = {
+        entry for entry in before.keys() | after.keys() if after.get(entry) not in (before.get(entry), other.get(entry))
+    }
     made = {entry for entry in changed if before.get(entry) == other.get(entry)}
     while True:
-        result = {entry: value for entry, value in other.items() if entry not in made} | {entry: after[entry] for entry in made if entry in after}
+        result = {entry: value for entry, value in other.items() if entry not in made} | {
+            entry: after[entry] for entry in made if entry in after
+        }
         back = {entry for entry in made if not can_be_made(entry, after, other, result, changed - made)}
         if not back:
             return result, changed - made

@@ -1,13 +1,26 @@
-"""A map package in plain Python, written from docs/FORMATS.md alone: its commands with their conditions, editions and kits.
+"""A map package in plain Python, written from docs/FORMATS.md alone: its commands with their conditions, editions
+and kits.
 
-It shares no code with the program and none of its definitions, so a mistake would have to be made in both to be missed. What
-it leaves out: faults, openings and the sixteen rules, of which the program's own check answers for the last.
+It shares no code with the program and none of its definitions, so a mistake would have to be made in both to be missed.
+What it leaves out: faults, openings and the sixteen rules, of which the program's own check answers for the last.
 """
 
 import datetime
 from dataclasses import dataclass, replace
 
-from package_records import FILE_NAME, ITEM, MOST_KIT_BYTES, MOST_PIECES, PIECES, PYRAMIDS, Refused, Word, decoded, read_fields, records
+from package_records import (
+    FILE_NAME,
+    ITEM,
+    MOST_KIT_BYTES,
+    MOST_PIECES,
+    PIECES,
+    PYRAMIDS,
+    Refused,
+    Word,
+    decoded,
+    read_fields,
+    records,
+)
 
 GIVEN_SYSTEMS = {
     4326: ("WGS 84 geographic", "EPSG", 4326, "EPSG:4326", "longitude and latitude"),
@@ -45,7 +58,9 @@ class Matrix:
     def covers(self, extent):
         """Whether the extent is the product."""
         spans = extent[2] - extent[0], extent[3] - extent[1]
-        return all(span == size * tile * pixel for span, size, tile, pixel in zip(spans, self.size, self.tile, self.pixel))
+        return all(
+            span == size * tile * pixel for span, size, tile, pixel in zip(spans, self.size, self.tile, self.pixel)
+        )
 
 
 def in_order(kind, low_zoom, low, high_zoom, high):

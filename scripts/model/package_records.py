@@ -1,4 +1,5 @@
-"""The limits, the sorts of fields, the records and the CSV lists of docs/FORMATS.md, from which alone this is written."""
+"""The limits, the sorts of fields, the records and the CSV lists of docs/FORMATS.md, from which alone this is
+written."""
 
 import re
 from dataclasses import dataclass

@@ -1,4 +1,5 @@
-"""What is seen of a package, from docs/FORMATS.md alone: the rows of its tables, its listing, and the responses of the page."""
+"""What is seen of a package, from docs/FORMATS.md alone: the rows of its tables, its listing, and the responses of
+the page."""
 
 import hashlib
 import json
@@ -46,7 +47,9 @@ def table_rows(package):
         "gpkg_tile_matrix_set": [(name, it.system, *it.extent) for name, it in pyramids.items()],
         "gpkg_tile_matrix": [(*key, *it.size, *it.tile, *it.pixel) for key, it in package.matrices.items()],
         "gpkg_extensions": extension_rows(package),
-        "gpkgext_relations": [(base, "id", related, "id", name, it) for it, (base, related, name) in package.relations.items()],
+        "gpkgext_relations": [
+            (base, "id", related, "id", name, it) for it, (base, related, name) in package.relations.items()
+        ],
         "mm_profile": [(1, PROFILE_VERSION)],
         "mm_tables": [(name, it.kind) for name, it in package.tables.items()],
         "mm_tiles": [(*key, data) for key, data in package.tiles.items()],
@@ -66,7 +69,11 @@ def table_rows(package):
 def blob_rows(package):
     """Returns the rows of the blobs: all bytes that tiles, media and pieces have, each once."""
     pieces = [piece for them in package.editions.values() for piece in them or ()]
-    kept = {*package.tiles.values(), *(data for _, data in package.media.values()), *(piece_row(piece)[-1] for piece in pieces)}
+    kept = {
+        *package.tiles.values(),
+        *(data for _, data in package.media.values()),
+        *(piece_row(piece)[-1] for piece in pieces),
+    }
     return [(hashlib.sha256(data).hexdigest(), data) for data in kept - {None}]
 
 
@@ -104,7 +111,10 @@ def records_of_rows(package, table):
     if package.kind(table) != "attributes":
         return f"refused {26 if table in package.tables else 25}\n"
     found = sorted((item, row) for (name, item), row in package.rows.items() if name == table)
-    return "".join(",".join(map(quoted, ("row", table, str(item), title, note, str(amount)))) + "\n" for item, (title, note, amount) in found)
+    return "".join(
+        ",".join(map(quoted, ("row", table, str(item), title, note, str(amount)))) + "\n"
+        for item, (title, note, amount) in found
+    )
 
 
 def respond(package, method, target):

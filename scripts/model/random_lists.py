@@ -3,11 +3,12 @@
 
     scripts/model/random_lists.py [--seed N] [--rounds N] [PROGRAM]
 
-PROGRAM is the built program: without it the one of the environment's MMPKG, or out/mmpkg. The model (scripts/model/package_model.py)
-is written from docs/FORMATS.md alone. A round makes a package and runs a few lists and kits on it, each in a run of its own;
-behind each, the answers, the listing, the check and the rows of all tables are compared, then what a desk answers to lists
-and looks of one sitting, and at the end what the page answers. The first round fills an edition. At the first mismatch the lists are kept, and how to run them again is told;
-else the last line says what was compared. It fails too where a refusal was not seen in all of DEFAULT_ROUNDS.
+PROGRAM is the built program: without it the one of the environment's MMPKG, or out/mmpkg. The model
+(scripts/model/package_model.py) is written from docs/FORMATS.md alone. A round makes a package and runs a few lists and
+kits on it, each in a run of its own; behind each, the answers, the listing, the check and the rows of all tables are
+compared, then what a desk answers to lists and looks of one sitting, and at the end what the page answers. The first
+round fills an edition. At the first mismatch the lists are kept, and how to run them again is told; else the last line
+says what was compared. It fails too where a refusal was not seen in all of DEFAULT_ROUNDS.
 """
 
 import argparse
@@ -136,7 +137,10 @@ class Round:
         self.do_kit("full", {"kit.csv": b"\n" * (MOST_KIT_BYTES + 1)})
         self.do_kit("full", {"kit.csv": full_kit()["kit.csv"] + b"4097,row,spots,1,,,0"})
         self.do_list(b"discard,full\nedition,full\n", 0)
-        self.do_kit("full", full_kit() | {"kit.csv": b"\n" * (MOST_KIT_BYTES - len(full_kit()["kit.csv"])) + full_kit()["kit.csv"]})
+        self.do_kit(
+            "full",
+            full_kit() | {"kit.csv": b"\n" * (MOST_KIT_BYTES - len(full_kit()["kit.csv"])) + full_kit()["kit.csv"]},
+        )
         numbers = MOST_PIECES, MOST_PIECES + 1, MOST_PIECES + 2, MOST_PIECES - 1
         self.do_list(stages(*numbers) + b"rehearse,full\npublish,full\n" + stages(1) + b"drop,spots\n", 1)
         self.do_kit("full", full_kit())
@@ -198,12 +202,15 @@ class Round:
         self.compare_records()
         told, wanted = self.file_rows(), table_rows(self.package)
         for table in sorted(told.keys() | wanted.keys()):
-            self.compare("rows of " + table, *[sorted(rows.get(table, ["no table"]), key=repr) for rows in (told, wanted)])
+            self.compare(
+                "rows of " + table, *[sorted(rows.get(table, ["no table"]), key=repr) for rows in (told, wanted)]
+            )
         self.seen["packages", ""] += 1
         self.seen["rows", ""] += sum(map(len, told.values()))
 
     def compare_records(self):
-        """Compares the records of the rows of each table that may have some, and why the first of the others shows none."""
+        """Compares the records of the rows of each table that may have some, and why the first of the others shows
+        none."""
         tables = sorted(self.package.tables, key=lambda table: (self.package.kind(table) == "attributes", table))
         for place, table in enumerate(["nowhere", *tables]):
             if place < 2 or self.package.kind(table) == "attributes":
@@ -217,7 +224,12 @@ class Round:
             for file in self.folder.glob(self.file.name + "*"):
                 shutil.copy(file, folder)
             connection = sqlite3.connect(os.path.join(folder, self.file.name))
-            tables = [it for (it,) in connection.execute("SELECT name FROM sqlite_schema WHERE type = 'table' AND name NOT LIKE 'sqlite_%'")]
+            tables = [
+                it
+                for (it,) in connection.execute(
+                    "SELECT name FROM sqlite_schema WHERE type = 'table' AND name NOT LIKE 'sqlite_%'"
+                )
+            ]
             rows = {table: connection.execute(query_of(table)).fetchall() for table in tables}
             connection.close()
         return rows
@@ -227,14 +239,22 @@ class Round:
         with socket.create_server(("127.0.0.1", 0)) as free:
             port = free.getsockname()[1]
         moment = self.random.randrange(MOST_MOMENT + 1)
-        table = self.random.choice([*(name for name, it in self.package.tables.items() if it.kind == "media"), "nowhere"])
+        table = self.random.choice(
+            [*(name for name, it in self.package.tables.items() if it.kind == "media"), "nowhere"]
+        )
         words = [self.program, "desk", self.file, "--port", str(port), "--count", "1000", "--page", table]
         clock = {"LD_PRELOAD": str(self.clock), "CLOCK_MILLISECONDS": str(moment), "MMPKG_KEY": KEY}
-        self.again.append(f"MMPKG_KEY={KEY} mmpkg desk {self.file.name} --port {port} --count 1000 --page {table}, at {moment}")
+        self.again.append(
+            f"MMPKG_KEY={KEY} mmpkg desk {self.file.name} --port {port} --count 1000 --page {table}, at {moment}"
+        )
         desk = Desk(port, KEY, table)
         with subprocess.Popen(words, stdout=subprocess.PIPE, env=os.environ | clock) as server:
             try:
-                self.compare("desk", [server.stdout.readline()], [f"desk http://127.0.0.1:{port}/{KEY}/media/{table}/1\n".encode()])
+                self.compare(
+                    "desk",
+                    [server.stdout.readline()],
+                    [f"desk http://127.0.0.1:{port}/{KEY}/media/{table}/1\n".encode()],
+                )
                 for _ in range(LISTS):
                     self.sit(desk, port, moment)
                 self.compare("end", [self.ask(desk, port, moment, "POST", f"/{KEY}/end", [], b"")], [True])
@@ -247,13 +267,29 @@ class Round:
         """Runs a random list by a desk, and asks it for some things."""
         self.author.package = self.package.copy()
         body = self.author.next_list(self.author.words(WORDS), [], moment)
-        self.ask(desk, port, moment, "POST", f"/{KEY}/records", [("Content-Type", "text/csv"), ("Content-Length", str(len(body)))], body)
+        self.ask(
+            desk,
+            port,
+            moment,
+            "POST",
+            f"/{KEY}/records",
+            [("Content-Type", "text/csv"), ("Content-Length", str(len(body)))],
+            body,
+        )
         self.author.package = self.package
         for method, target, _ in self.author.requests():
             if method is not None:
                 self.ask(desk, port, moment, method, f"/{KEY}{target}" if target.startswith("/") else target, [], b"")
         for table in self.package.tables:
-            self.ask(desk, port, moment, "GET", f"/{KEY}/rows/{table}/{self.random.choice((0, 1, 2, 5, MOST_PIECES))}", [], b"")
+            self.ask(
+                desk,
+                port,
+                moment,
+                "GET",
+                f"/{KEY}/rows/{table}/{self.random.choice((0, 1, 2, 5, MOST_PIECES))}",
+                [],
+                b"",
+            )
 
     def ask(self, desk, port, moment, method, target, fields, body):
         """Asks the desk, and compares what it answers with the model; whether the desk ends."""
@@ -341,9 +377,17 @@ def all_rounds(given, clock):
             print(f"seed {given.seed}, round {number}: {error}")
             print(f"In {one.folder}:", *one.again, sep="\n    ")
             return 1
-    print(f"seed {given.seed}, rounds {given.first} to {given.rounds}, all as in the model: records", counts(seen, "answer"), end="; ")
+    print(
+        f"seed {given.seed}, rounds {given.first} to {given.rounds}, all as in the model: records",
+        counts(seen, "answer"),
+        end="; ",
+    )
     print("kits", counts(seen, "kit"), end="; ")
-    print(f"{seen['packages', '']} listings, checks and files of {seen['rows', '']} rows in all; requests", counts(seen, "page"), end="; ")
+    print(
+        f"{seen['packages', '']} listings, checks and files of {seen['rows', '']} rows in all; requests",
+        counts(seen, "page"),
+        end="; ",
+    )
     print("a desk's", counts(seen, "desk"))
     if given.first == 1 and given.rounds >= DEFAULT_ROUNDS and unseen(seen):
         print("not seen:", unseen(seen))

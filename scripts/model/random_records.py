@@ -58,7 +58,19 @@ CONTENT_TYPE_EDGES = (
     "", "a", "/", "a/", "/a", "a/b/c", "a b/c", "a/b;c", "é/b", "a/b\n", "a" * 65 + "/b", "b/" + "a" * 65, "a" * 64 + "/b", "*/*", "a/b\0",
 )  # fmt: skip
 HEXADECIMAL_EDGES = "", "0", "0g", "AbcD", " 00", "0x00", "abc", "00\n", "é"
-WORD_EDGES = "", "Two", "two ", "other", "attributes", "media", "MEDIA", "simple-attributes", "tile_drop", "stage", "srs"
+WORD_EDGES = (
+    "",
+    "Two",
+    "two ",
+    "other",
+    "attributes",
+    "media",
+    "MEDIA",
+    "simple-attributes",
+    "tile_drop",
+    "stage",
+    "srs",
+)
 BREAKS = re.compile(b"[,\r\n]")
 NO_TEXTS = b"\xff", b"\xc3", b"\xa9", b"\xc0\x80", b"\xed\xa0\x80", b"\xf4\x90\x80\x80"
 
@@ -160,7 +172,9 @@ class Author:
         self.slip = 0.06
         fields[place] = field
         if self.random.random() < 0.2:
-            fields[self.random.randrange(1, len(fields))] = self.pick((b"", b"1.5", b"A", b"-7", b"\xff", b"zz", b"9" * 30))
+            fields[self.random.randrange(1, len(fields))] = self.pick(
+                (b"", b"1.5", b"A", b"-7", b"\xff", b"zz", b"9" * 30)
+            )
         return fields
 
     def bent(self, fields):
@@ -241,7 +255,12 @@ class Author:
         min_x, max_x = self.side()
         min_y, max_y = self.side()
         step = self.pick(PYRAMIDS)
-        return [self.new_name(self.package.tables), self.new_identifier(), *map(str, (system, min_x, min_y, max_x, max_y)), step]
+        return [
+            self.new_name(self.package.tables),
+            self.new_identifier(),
+            *map(str, (system, min_x, min_y, max_x, max_y)),
+            step,
+        ]
 
     def side(self):
         """Returns the least and the most coordinate of an extent."""
@@ -283,7 +302,9 @@ class Author:
         """Whether a pixel size is in order between those of the other zooms."""
         two = self.package.kind(table) == "two"
         falls = all((other > pixel) == (it < zoom) and other != pixel for it, other in known.items() if it != zoom)
-        return falls and not (two and (known.get(zoom - 1, 2 * pixel) != 2 * pixel or 2 * known.get(zoom + 1, pixel / 2) != pixel))
+        return falls and not (
+            two and (known.get(zoom - 1, 2 * pixel) != 2 * pixel or 2 * known.get(zoom + 1, pixel / 2) != pixel)
+        )
 
     def table(self):
         return [self.new_name(self.package.tables), self.pick(("attributes", "media")), self.new_identifier()]
@@ -325,7 +346,12 @@ class Author:
     def relation(self):
         name = self.pick(("media", "simple_attributes"))
         base = self.table_of("media", "attributes")
-        return [self.new_name(self.package.relations), base, self.table_of("media" if name == "media" else "attributes"), name]
+        return [
+            self.new_name(self.package.relations),
+            base,
+            self.table_of("media" if name == "media" else "attributes"),
+            name,
+        ]
 
     def relation_drop(self):
         return [self.one_of(self.package.relations, self.new_name())]
@@ -380,7 +406,10 @@ class Author:
             if piece[0] in ("tile", "media"):
                 name = f"p{place}.{self.random.randrange(10)}"
                 folder[name] = bytes.fromhex(piece[-1])
-                piece = [*piece[:-1], self.pick([*FILES, "missing", "../x", ".x", "x" * 101]) if self.slips(2) else name]
+                piece = [
+                    *piece[:-1],
+                    self.pick([*FILES, "missing", "../x", ".x", "x" * 101]) if self.slips(2) else name,
+                ]
             number = self.pick((0, 1, place + 1, "01", 2**53 + 1)) if self.slips(0.5) else place
             text += self.spelled(self.bent([it.encode() for it in (str(number), *piece)]))
         return edition, folder if self.slips(0.5) else folder | {"kit.csv": text}
@@ -410,9 +439,32 @@ class Author:
         """Returns a target in which something is off."""
         parts = self.target().split("/")
         place = self.random.randrange(1, len(parts))
-        off = ("", "-0", "01", "+1", "-1", "31", "1073741824", "9007199254740993", "A", "%61", "media", "9" * 40, parts[place] + "%20")
+        off = (
+            "",
+            "-0",
+            "01",
+            "+1",
+            "-1",
+            "31",
+            "1073741824",
+            "9007199254740993",
+            "A",
+            "%61",
+            "media",
+            "9" * 40,
+            parts[place] + "%20",
+        )
         parts[place] = self.pick(off)
-        return self.pick(("/".join(parts), "/".join(parts[1:]) or "*", self.target() + "/", "/" + self.target(), self.target() + "?x=1/2", "/"))
+        return self.pick(
+            (
+                "/".join(parts),
+                "/".join(parts[1:]) or "*",
+                self.target() + "/",
+                "/" + self.target(),
+                self.target() + "?x=1/2",
+                "/",
+            )
+        )
 
     def head(self, method, target):
         """Returns the head of a request, with some lines and maybe a body."""

@@ -97,6 +97,7 @@ class Picture:
 
     def told(self, system):
         """Where the map is in a system, and between which sizes of a pixel it is drawn."""
+
         def warped():
             around = gdal.AutoCreateWarpedVRT(self.source(), self.own, system_of(system).ExportToWkt())
             left, across, _, top, _, down = around.GetGeoTransform()
@@ -161,6 +162,7 @@ class Shapes:
 
     def told(self, system):
         """Where the shapes are in a system, and the columns that may name them."""
+
         def boxes():
             return [it for it in (self.box_of(name, system) for name in self.layers) if it]
 

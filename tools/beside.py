@@ -1,6 +1,7 @@
 """The maps that lie beside a package: which they are, kept in FILE.maps, and the program that draws them for a page.
 
-They are no part of the package, nor of what it promises: the program of maps reads files, and writes none.
+They are no part of the package, nor of what it promises: the program of maps reads files, and writes none. It brings
+places into systems too that the page can't reckon, and runs for that where no map lies there.
 """
 
 import contextlib
@@ -92,7 +93,8 @@ def chosen(file, named, forgets, tell):
 
 
 class Maps:
-    """The program that draws maps for a page. It ends with its standard input, and so with this one, however it ends."""
+    """The program that draws maps for a page. It ends with its standard input, and so with this one, however it
+    ends."""
 
     def __init__(self, python, paths, origin):
         self.running = subprocess.Popen(
@@ -131,9 +133,11 @@ class Maps:
 
 
 @contextlib.contextmanager
-def drawn(paths, origin, tell):
-    """The program that draws maps for the page of an origin; None where there is none, and why is told."""
-    running = begun(paths, origin, tell) if paths else None
+def drawn(paths, origin, tell, is_beyond=False):
+    """The program that draws maps for the page of an origin, or brings places into a system of the package that the
+    page can't reckon; None where neither is wanted, or it can't be, and why is told.
+    """
+    running = begun(paths, origin, tell) if paths or is_beyond else None
     try:
         yield running
     finally:
@@ -143,12 +147,13 @@ def drawn(paths, origin, tell):
 
 def begun(paths, origin, tell):
     """The program, where it can be begun; else why not is told, and the day goes on without it."""
+    without = "No map is shown behind the work" if paths else "The device's place isn't told in the package's system"
     python = python_with_gdal()
     if python is None:
-        tell(f"No map is shown behind the work: {MISSING}")
+        tell(f"{without}: {MISSING}")
         return None
     try:
         return Maps(python, paths, origin)
     except OSError as error:
-        tell(f"No map is shown behind the work: {error}")
+        tell(f"{without}: {error}")
         return None

@@ -6,6 +6,7 @@ import sqlite3
 import types
 
 import make_viewer
+import systems
 from border import Report, has_commits, media_piece, record
 from session import Held
 from taking import staged
@@ -20,6 +21,15 @@ def has_page(file, table):
         return False
     try:
         return is_current(f"{file.resolve().as_uri()}?mode=ro&immutable=1", table)
+    except Exception:  # whatever a file that is no package makes of the reading
+        return False
+
+
+def is_beyond(file):
+    """Whether a package has a map in a system that the page can't reckon, as far as a file tells nobody has checked."""
+    try:
+        with contextlib.closing(sqlite3.connect(f"{file.resolve().as_uri()}?mode=ro&immutable=1", uri=True)) as opened:
+            return bool(systems.beyond(opened))
     except Exception:  # whatever a file that is no package makes of the reading
         return False
 

@@ -11,7 +11,8 @@ else may read: so the address is the same tomorrow, and what a browser keeps is 
 --map MAP has a map lie behind the work: whatever GDAL opens, of any size and system (GeoTIFF, MBTiles, GeoPackage, VRT,
 parcels and lines of any format), drawn as it is asked for, and no part of FILE. Which they are is kept in FILE.maps, a
 list of their names, and they come again without the word; --map adds to it, --no-maps forgets those of before. It wants
-Debian's python3-gdal; without that the page opens, and has no maps behind it.
+Debian's python3-gdal; without that the page opens, and has no maps behind it. The same program brings the device's
+place into a system of the package that the page can't reckon, by PROJ, and runs for that too.
 
 When the program ends by a fault, or is killed, it is started again, and the page goes on. Ctrl-C, or 'End the day' in
 the page, ends it well: then FILE alone holds all, and may be copied. What can't be opened at the first start is told in
@@ -59,7 +60,7 @@ from border import (
     seconds_to_open,
     sizes_of,
 )
-from bringing import Page, has_page
+from bringing import Page, has_page, is_beyond
 from session import Session
 
 PORT = 8090
@@ -274,7 +275,7 @@ class Desk:
             return ""
         opened = self.maps.opened()
         if opened is None:
-            tell("The maps behind the work can't be drawn: GDAL ended, or took too long. The page opens without them.")
+            tell("What GDAL does beside the page, as maps behind the work, is missing: it ended, or took too long.")
             return ""
         address, unopened = opened
         for why in unopened:
@@ -413,7 +414,7 @@ def work(given):
         raise Refused(f"{file}: isn't there; 'mmpkg init {shlex.quote(str(file))}' makes an empty package", 4)
     paths, origin = maps_behind(given, file), f"http://127.0.0.1:{given.port}"
     key = key_of(file)
-    with claimed(file) as claim, beside.drawn(paths, origin, tell) as maps:
+    with claimed(file) as claim, beside.drawn(paths, origin, tell, is_beyond(file)) as maps:
         desk = Desk(given, file, key, maps)
         make_ready(desk)
         try:

@@ -22,6 +22,9 @@ took them in: of whole numbers, of decimal ones, or of text. --photos writes the
 FOLDER, which must not be there: one folder a table, each file named by its row's title and number, and photos.csv that
 lists them.
 
+Lines, areas and tracks that rows are related to are layers too, TABLE_lines, TABLE_areas and TABLE_tracks, beside the
+files that they are: each with its row's number and title, in the system of its corners, tracks in WGS 84.
+
 Rows whose note has a word that begins with @ and is no place, and rows whose place is on no map, are named.
 
 Exit status: 0 OUT.gpkg was written; 2 wrong arguments, or a file that can't be read or written; else what 'mmpkg check'
@@ -39,6 +42,7 @@ import tempfile
 import note_words
 import photos
 import points
+import shapes
 from border import (
     BOUNDS_TABLE,
     LINE,
@@ -262,7 +266,7 @@ def part_words(name, rows):
             values.setdefault(word, []).append(value)
     if len(values) > MOST_COLUMNS:
         raise Refused(f"--columns: the notes of {name} have {len(values)} names, at most {MOST_COLUMNS} are columns")
-    return {word: note_words.type_of(them) for word, them in values.items()}
+    return {word: note_words.type_of(values[word]) for word in note_words.in_order(list(values))}
 
 
 def write_rows(out, name, points_too, words_too, report):
@@ -428,6 +432,7 @@ def write_standard(source, made, report, given, folder):
                 finish_pyramid(out, name, kind, report)
         LINE.clear()
         write_relations(out)
+        shapes.write(out, report)
         tell_slips(out, UNITS_OF_VERSION[version], report)
         if folder and not photos.write(out, "package", folder):
             report.note("photos", "no row has one")

@@ -46,6 +46,7 @@ import zlib
 
 import note_words
 import points
+import shapes
 import ways
 import zones
 from border import (
@@ -296,6 +297,9 @@ class Standard:
         """The records that make a table, or why there are none."""
         made = list(self.records), dict(self.kinds), dict(self.bounds)
         try:
+            if data_type == "features" and shapes.are_columns(self.columns(theirs)):
+                self.report.note(f"table {theirs}", "left behind, since its shapes come in as files of their rows")
+                return
             why = self.why_no_table(theirs, data_type, identifier, bounds)
         except sqlite3.Error as error:
             why = f"it can't be read: {error}"

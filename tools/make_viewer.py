@@ -6,10 +6,10 @@
 FILE is a package of mmpkg. OUT, which must not be there, gets layout.csv, which makes the media table TABLE ('viewer')
 and an open edition, and a kit of four media items: 1 the page, 2 and 3 the script and the style of Leaflet with their
 licence, 4 what the page has to know: the matrices of all pyramids of FILE and where their tiles are, the relations, and
-the systems in which it can tell a device's place, with their numbers at EPSG. The commands that take them in are printed, with FILE for the
-package; then 'mmpkg serve FILE --port PORT' shows the page at http://127.0.0.1:PORT/media/TABLE/1, and 'mmpkg desk FILE
---port PORT --page TABLE' works at the address that it prints (tools/crew.py does all of this). Leaflet is that of
-Debian's package libjs-leaflet.
+the systems in which it can tell a device's place, with their numbers at EPSG. The commands that take them in are
+printed, with FILE for the package; then 'mmpkg serve FILE --port PORT' shows the page at
+http://127.0.0.1:PORT/media/TABLE/1, and 'mmpkg desk FILE --port PORT --page TABLE' works at the address that it prints
+(tools/crew.py does all of this). Leaflet is that of Debian's package libjs-leaflet.
 
 With --wmts there is a fifth item, a WMTS description by which QGIS and GDAL open the maps of
 http://127.0.0.1:PORT/media/TABLE/5 while they are served. It has whole addresses, so another port wants another
@@ -65,27 +65,46 @@ from border import (
 PAGE = pathlib.Path(__file__).resolve().parent / "page"
 # The page's script in its order: what it reckons with, which asks no browser anything, and then what does.
 CORE = (
+    "german.mjs",
+    "tongue.mjs",
     "notes.mjs",
+    "notewords.mjs",
+    "told.mjs",
     "typed.mjs",
     "slips.mjs",
     "systems.mjs",
+    "fixes.mjs",
+    "nmea.mjs",
     "exif.mjs",
+    "exifout.mjs",
+    "shots.mjs",
     "behind.mjs",
+    "beyond.mjs",
     "answers.mjs",
+    "signing.mjs",
     "changes.mjs",
+    "media.mjs",
     "records.mjs",
+    "past.mjs",
     "steps.mjs",
     "words.mjs",
     "degrees.mjs",
-    "notewords.mjs",
     "files.mjs",
     "day.mjs",
     "plane.mjs",
+    "lines.mjs",
+    "tracks.mjs",
+    "grid.mjs",
+    "styles.mjs",
+    "kinds.mjs",
+    "fields.mjs",
 )
 SCRIPTS = (
     *CORE,
+    "tongue.js",
     "asking.js",
     "behind.js",
+    "beyond.js",
     "parts.js",
     "shapes.js",
     "layers.js",
@@ -93,18 +112,32 @@ SCRIPTS = (
     "map.js",
     "related.js",
     "places.js",
+    "mine.js",
+    "nearest.js",
+    "receiver.js",
     "outbox.js",
     "sending.js",
     "waiting.js",
     "photos.js",
+    "camera.js",
+    "sound.js",
+    "tables.js",
+    "legend.js",
     "marks.js",
     "way.js",
     "measure.js",
+    "draw.js",
+    "lines.js",
+    "track.js",
     "stake.js",
     "drafts.js",
+    "fields.js",
+    "past.js",
     "form.js",
     "formplace.js",
+    "formtold.js",
     "rows.js",
+    "who.js",
     "out.js",
     "report.js",
     "work.js",
@@ -266,6 +299,7 @@ class Package:
             "relations": self.relations(),
             "systems": self.systems(),
             "epsg": self.numbers_at_epsg(),
+            "beyond": systems.beyond(self.opened),
         }
 
     def is_current(self, table):

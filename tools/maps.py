@@ -8,6 +8,7 @@ can't be opened, and `ready`; and it ends with its standard input, and so with w
     GET /TOKEN/maps?system=N
     GET /TOKEN/parts/MAP/SYSTEM/WEST/NORTH/PIXEL/COLUMN/ROW
     GET /TOKEN/shapes/MAP/SYSTEM/WEST/SOUTH/EAST/NORTH/PIXEL?name=COLUMN
+    POST /TOKEN/places
 
 The first lists all maps, with why for what can't be opened; without a system it chooses one in metres that suits the
 first map, and tells what a page needs to reckon it. The second is a PNG of 256 x 256 pixels, and 404 where the map has
@@ -16,6 +17,12 @@ each with its value of a column as its name; `more` says that there are more tha
 the list. All lengths are metres of SYSTEM, a number at EPSG; a part is that of a grid whose upper left corner is WEST,
 NORTH. A part whose client has gone before its turn isn't drawn. Nothing is ever written, and the maps are no part of
 the package or of its promise.
+
+The last brings places into a system that a page can't reckon, by PROJ: its body is JSON with `places`, up to 5,000 of
+longitude and latitude in degrees of WGS 84, and `epsg`, the system's number there, or `definition`, its WKT; with
+`back` the places are east and north in metres, and come back as degrees. It answers `places`, null where one leads
+nowhere; `name`, the operation; and `worth`, within how many metres that is, null where nobody knows it, and then no
+place. It is 500 with words where PROJ knows no such system.
 """
 
 import collections
@@ -33,6 +40,7 @@ import threading
 import urllib.parse
 
 MOST_CACHED = 64_000_000
+MOST_BODY = 1_000_000
 # A place and a pixel are within these metres.
 FAR, LEAST_PIXEL, MOST_PIXEL = 1e9, 1e-6, 1e7
 MOST_COLUMN = 2**31
@@ -75,6 +83,13 @@ def whole(text, least, most):
     if not text.removeprefix("-").isascii() or not text.removeprefix("-").isdigit() or not least <= int(text) <= most:
         raise ValueError(text)
     return int(text)
+
+
+def brought_by_proj(*words):
+    """Places in another system, by PROJ, which is asked for when a page wants it."""
+    import beyond
+
+    return beyond.brought(*words)
 
 
 class Maps:
@@ -181,20 +196,33 @@ class Answers(http.server.BaseHTTPRequestHandler):
 
     def do_GET(self):
         address = urllib.parse.urlsplit(self.path)
-        token, *rest = address.path.lstrip("/").split("/")
+        query = dict(urllib.parse.parse_qsl(address.query))
+        self.answer_by(lambda rest: self.found(rest, query), "it can't be drawn: ")
+
+    def do_POST(self):
+        size = self.headers.get("Content-Length", "")
+        if not size.isascii() or not size.isdigit() or int(size) > MOST_BODY:
+            self.close_connection = True
+            return self.answer(413)
+        body = self.rfile.read(int(size))
+        return self.answer_by(lambda rest: self.places(rest, body), "")
+
+    def answer_by(self, find, front):
+        """Answers with what is found at a route, to whom may ask."""
+        token, *rest = urllib.parse.urlsplit(self.path).path.lstrip("/").split("/")
         if not self.may_ask():
             return self.answer(403)
         if not secrets.compare_digest(token.encode(), self.server.token.encode()):
             return self.answer(404)
         try:
-            kind, body = self.found(rest, dict(urllib.parse.parse_qsl(address.query)))
+            kind, body = find(rest)
         except Gone:
             self.close_connection = True
             return None
         except (ValueError, KeyError):
             kind, body = None, None
-        except Exception as error:  # whatever a map makes of GDAL
-            return self.answer(500, "text/plain; charset=utf-8", f"it can't be drawn: {error}".encode())
+        except Exception as error:  # whatever a map or a system makes of GDAL
+            return self.answer(500, "text/plain; charset=utf-8", f"{front}{error}".encode())
         return self.answer(200, kind, body) if body is not None else self.answer(404)
 
     def found(self, rest, query):
@@ -235,17 +263,26 @@ class Answers(http.server.BaseHTTPRequestHandler):
 
         return "application/geo+json", self.server.maps.drawn(key, draw, self.is_gone)
 
+    def places(self, rest, body):
+        told = json.loads(body)
+        if rest != ["places"] or not isinstance(told, dict) or not isinstance(told.get("places"), list):
+            raise ValueError(rest)
+        bring = self.server.bring
+        work = self.server.maps.threads.submit(bring, told, told["places"], told.get("back") is True)
+        return "application/json", json.dumps(work.result()).encode()
+
 
 class Server(http.server.ThreadingHTTPServer):
     """Serves maps at a free port, or a given one; `address` has the token."""
 
     daemon_threads = True
 
-    def __init__(self, paths, origin, port=0, open_map=None):
+    def __init__(self, paths, origin, port=0, open_map=None, bring=None):
         if open_map is None:
             import behind
 
             open_map = behind.map_of
+        self.bring = bring or brought_by_proj
         super().__init__(("127.0.0.1", port), Answers)
         self.origin, self.token = origin, secrets.token_urlsafe(24)
         self.maps = Maps(paths, open_map)

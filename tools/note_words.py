@@ -7,9 +7,7 @@ from points import SPACE
 WHITE = SPACE[1:-1]
 NOT_IN_A_NAME = re.compile(f'[="{WHITE}]')
 SPACED = re.compile(SPACE)
-WORD = re.compile(
-    rf'(?:^|{SPACE})([^="@{WHITE}][^="{WHITE}]*)=("(?:[^"]|"")*"|[^"{WHITE}][^{WHITE}]*)(?={SPACE}|$)'
-)
+WORD = re.compile(rf'(?:^|{SPACE})([^="@{WHITE}][^="{WHITE}]*)=("(?:[^"]|"")*"|[^"{WHITE}][^{WHITE}]*)(?={SPACE}|$)')
 WHOLE = re.compile(r"0|-?[1-9][0-9]{0,17}")
 DECIMAL = re.compile(r"-?(0|[1-9][0-9]{0,14})\.[0-9]{0,14}[1-9]|-?(0|[1-9][0-9]{0,14})\.0")
 
@@ -49,6 +47,12 @@ def type_of(values):
 def spelled(value):
     """Whether a number is spelled as a DOUBLE of it is, but for what stands behind a whole one."""
     return value in (repr(float(value)), repr(float(value)).removesuffix(".0"))
+
+
+def in_order(names):
+    """Names of words in the order of their columns: those of a place that the device told stay behind each other."""
+    behind = [it for it in ("h", "age") if "acc" in names and it in names]
+    return [it for name in names if name not in behind for it in ([name, *behind] if name == "acc" else [name])]
 
 
 def free_names(names, taken):

@@ -9,6 +9,9 @@ from border import LINE, image_suffix
 
 LISTED = ("file", "table", "row", "title", "media", "item", "content_type")
 MOST_BYTES = 120
+# The suffixes of what a crew's page takes beside pictures: Python knows some of the types alone, and systems differ.
+SUFFIXES = {"audio/ogg": ".ogg", "audio/webm": ".webm", "audio/wav": ".wav", "audio/mpeg": ".mp3", "audio/mp4": ".m4a",
+            "application/geo+json": ".geojson", "application/gpx+xml": ".gpx"}  # fmt: skip
 # By table of rows, with each photo of a row that a relation of the name media relates to it.
 RELATED = """
 SELECT r.base_table_name, m.base_id, w.title, r.related_table_name, m.related_id, p.content_type, b.data
@@ -40,7 +43,7 @@ def name_of(title, row, count, suffix):
 
 
 def suffix_of(content_type, data):
-    return image_suffix(data) or mimetypes.guess_extension(content_type) or ".bin"
+    return image_suffix(data) or SUFFIXES.get(content_type) or mimetypes.guess_extension(content_type) or ".bin"
 
 
 def write(opened, schema, folder):

@@ -1,4 +1,7 @@
-"""Which systems of a package the page can reckon: transverse Mercators, as UTM is, on a datum in which devices tell."""
+"""Which systems of a package the page can reckon: transverse Mercators, as UTM is, on a datum in which devices tell.
+
+And how PROJ is asked for the others.
+"""
 
 import re
 
@@ -12,6 +15,8 @@ DATUMS = {
     "etrs89",
 }
 NUMBER = r"\s*(-?[0-9]+(?:\.[0-9]*)?(?:[eE][+-]?[0-9]+)?)"
+# What the WKT of a system in a plane begins with.
+PLANE = re.compile(r"\s*(PROJCS|PROJCRS|PROJECTEDCRS|COMPD_CS|COMPOUNDCRS|BOUNDCRS|DERIVEDPROJCRS)\[")
 PARAMETERS = ("latitude_of_origin", "central_meridian", "scale_factor", "false_easting", "false_northing")
 
 
@@ -32,3 +37,21 @@ def transverse_mercator(definition):
         "inverse_flattening": float(spheroid[2]),
         **{name: float(it[1]) for name, it in found.items()},
     }
+
+
+def asked_of_proj(organization, number, definition):
+    """How PROJ is asked for a system: by its number at EPSG, else by its WKT; None where neither tells one."""
+    if organization.upper() == "EPSG" and number > 0:
+        return {"epsg": number}
+    return {"definition": definition} if PLANE.match(definition) else None
+
+
+def beyond(opened):
+    """By number, how PROJ is asked for the systems of a package's maps that the page can't reckon."""
+    query = (
+        "SELECT srs_id, organization, organization_coordsys_id, definition FROM gpkg_spatial_ref_sys "
+        "WHERE srs_id IN (SELECT srs_id FROM gpkg_contents WHERE data_type = 'tiles') ORDER BY srs_id"
+    )
+    rows = opened.execute(query).fetchall()
+    found = {number: asked_of_proj(*told) for number, *told in rows if not transverse_mercator(told[-1])}
+    return {number: it for number, it in found.items() if it}

@@ -1,37 +1,40 @@
 // What an answer means. Only the package's own counts: anything else at its port leaves all as it is.
 
+import { phrase, toSay } from "./tongue.mjs";
+
 /** @type {Record<string | number, string>} */
-const REFUSALS = {
+const REFUSALS = toSay({
   10: "it is no record", 11: "a number or a text is outside its limits", 12: "a name is none",
   25: "there is no such table", 26: "the table is of another kind", 40: "there is no such row",
   41: "there is no such photo", 42: "something is still related to it", 44: "there is no such relation",
   45: "it is related already", 46: "it isn't related",
-};
+});
 /** @type {Record<string | number, string>} */
-const FAULTS = {
+const FAULTS = toSay({
   90: "the program was refused memory", 91: "the file could not be read or written",
   92: "the program has to be started again",
-};
+});
 /** @type {Record<string | number, string>} */
-const STATUSES = {
+const STATUSES = toSay({
   400: "the package got a part of it only",
   403: "the program lets no page of this address in: open the address that it prints",
   404: "its key has changed: open the address that the program printed last",
   405: "the program takes no such request", 411: "the program wants the length of what is sent",
   413: "it is too large for the package", 415: "the program takes no such records",
-};
+});
 /** @type {Record<string | number, string>} */
-const OF = {
+const OF = toSay({
   row: "the row", media: "the photo", map: "the photo's relation to the row", "row-drop": "to remove the row",
   "media-drop": "to remove the photo", "map-drop": "to take the photo off the row",
-};
+});
+const REFUSED = toSay("it is refused"), REFUSAL_KEPT = /^([^:]+): (.+) \((\d+)\)$/;
 // By its word, with which numbers a record is as it should be: it stands already, or is gone already.
 /** @type {Record<string, number[]>} */
 const STANDS = { map: [45], "map-drop": [46], "row-drop": [40], "media-drop": [41, 42] };
 const LINE = /^([1-9][0-9]*) (?:ok|(refused|fault) ([0-9]+)(?: [0-9]+)*)$/;
 
-export const STRANGER = "another program has the port";
-export const CUT = "the answer was cut short";
+export const STRANGER = toSay("another program has the port");
+export const CUT = toSay("the answer was cut short");
 
 /**
  * An answer as it came: its status, its type (null where it tells none), whether it leads elsewhere, and its text.
@@ -126,15 +129,29 @@ export function linesOf(text, count) {
  * @returns {{ again?: string, refused?: string, lines: string[] }}
  */
 export function judged(records, answer) {
-  if (isNo(answer)) return { [answer.status === 413 ? "refused" : "again"]: STATUSES[answer.status], lines: [] };
+  if (isNo(answer)) {
+    const why = STATUSES[answer.status];
+    return answer.status === 413 ? { refused: why, lines: [] } : { again: phrase(why), lines: [] };
+  }
   const lines = isThere(answer, "text/plain") ? linesOf(answer.text, records.length) : null;
-  if (!lines) return { again: STRANGER, lines: [] };
+  if (!lines) return { again: phrase(STRANGER), lines: [] };
   for (const [at, line] of lines.entries()) {
     const [, , word, number] = LINE.exec(line) ?? [], [name] = records[at];
-    if (word === "fault") return { again: FAULTS[number] ?? `the program tells fault ${number}`, lines };
+    if (word === "fault") {
+      return { again: phrase(FAULTS[number] ?? "the program tells fault {0}", number), lines };
+    }
     if (word === "refused" && !STANDS[name]?.includes(Number(number))) {
-      return { refused: `${OF[name] ?? name}: ${REFUSALS[number] ?? "it is refused"} (${number})`, lines };
+      return { refused: `${OF[name] ?? name}: ${REFUSALS[number] ?? REFUSED} (${number})`, lines };
     }
   }
-  return lines.length < records.length ? { again: CUT, lines } : { lines };
+  return lines.length < records.length ? { again: phrase(CUT), lines } : { lines };
+}
+
+/**
+ * A refusal, which is kept in English, in the crew's language.
+ * @param {string} refused
+ */
+export function wordsOfRefusal(refused) {
+  const [, of, why, number] = REFUSAL_KEPT.exec(refused) ?? [];
+  return of ? `${phrase(of)}: ${phrase(why)} (${number})` : phrase(refused);
 }

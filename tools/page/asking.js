@@ -11,13 +11,13 @@ const WORKS = ROOT !== "/";
 // By what came of a question, what is said above the map.
 const AWAY = {
   gone: WORKS
-    ? "The package doesn't answer. What is saved here is kept in this browser, and is sent when it does. " +
-      "If that takes long, open the package again."
-    : "The package doesn't answer: 'mmpkg serve' has ended, or isn't to be reached. Start it again.",
-  no: "This address isn't the package's any more: its key has changed. Open the address that 'mmpkg desk' printed " +
-    "last; what isn't in the package yet is kept in this browser.",
-  strange: "Another program has the port of this package: nothing that it tells counts. End it, and open the package " +
-    "again; what isn't in the package yet is kept in this browser.",
+    ? phrase("The package doesn't answer. What is saved here is kept in this browser, and is sent when it does. " +
+      "If that takes long, open the package again.")
+    : phrase("The package doesn't answer: 'mmpkg serve' has ended, or isn't to be reached. Start it again."),
+  no: phrase("This address isn't the package's any more: its key has changed. Open the address that 'mmpkg desk' " +
+    "printed last; what isn't in the package yet is kept in this browser."),
+  strange: phrase("Another program has the port of this package: nothing that it tells counts. End it, and open the " +
+    "package again; what isn't in the package yet is kept in this browser."),
 };
 
 const messages = {};

@@ -1,7 +1,8 @@
 // Maps that lie behind the work, drawn by the program that crew.py starts beside the desk. They are no part of the
 // package: where that program doesn't answer the list of maps says so, and nothing else waits for it.
 
-const NO_MAPS = "The maps don't answer: what lies behind the work is missing until the package is opened again.";
+const NO_MAPS = phrase("The maps don't answer: what lies behind the work is missing until the package is opened " +
+  "again.");
 const LOOKS_OF_MAPS = `mmpkg maps ${ROOT}`;
 const SHAPES_PAUSE = 150;  // milliseconds behind a move until shapes are asked for
 // What the address tells beside the page: the package's file, and where its maps are drawn.
@@ -63,10 +64,11 @@ async function showBehind() {
   if (!MAPS) return;
   const now = map, system = rows.epsg[shown.srs_id], looks = keptLooks();
   own = lookOf("", looks.find(it => it?.name === ""));
-  const told = system && await askList(system);
+  const list = await askList(system ?? null), told = system && list;
   if (map !== now) return;
-  const why = `No map lies behind one of system ${shown.srs_id}: EPSG has no such system.`;
+  const why = phrase("No map lies behind one of system {0}: EPSG has no such system.", shown.srs_id);
   if (!system) byId("mapped").textContent = why;
+  byId("maps").hidden = list?.maps.length === 0;  // that program knows systems too, also where no map lies behind
   if (told) lying = inOrder(told.maps, looks).map(it => ({ ...it, layer: null, why: "" }));
   for (const it of lying) it.layer = layerOf(it);
   map.on("moveend", followBehind);

@@ -1,6 +1,7 @@
 // Maps that lie behind the work, as far as that is reckoned: where they are drawn, their order and looks, which parts
 // of them are asked for, and which of their names have room. They are no part of the package.
 
+import { phrase } from "./tongue.mjs";
 import { MICROMETRES } from "./typed.mjs";
 
 /** The side of a part in pixels. */
@@ -139,10 +140,10 @@ export const hasPart = ({ bounds, coarsest }, pixel, box) => Boolean(bounds) && 
  * @param {Box} sight
  */
 export function wordsOfMap({ kind, why, bounds, coarsest }, pixel, sight) {
-  if (kind === "none") return `can't be shown: ${why}`;
-  if (!bounds) return "has nothing in it";
-  if (!meet(bounds, sight)) return "lies elsewhere";
-  return pixel > (coarsest ?? Infinity) ? "is seen from nearer on" : "";
+  if (kind === "none") return phrase("can't be shown: {0}", why);
+  if (!bounds) return phrase("has nothing in it");
+  if (!meet(bounds, sight)) return phrase("lies elsewhere");
+  return pixel > (coarsest ?? Infinity) ? phrase("is seen from nearer on") : "";
 }
 
 /**
@@ -203,6 +204,6 @@ export function laidOver(maps, system) {
   const [left, top] = [Math.floor(west) * MICROMETRES, Math.ceil(north) * MICROMETRES];
   const whole = PART * pixel * 2 ** last;
   const bounds = [west, south, east, north].map(it => Math.round(it * MICROMETRES));
-  const content = { table: "", identifier: "Maps behind the work", srs_id: system };
+  const content = { table: "", identifier: phrase("Maps behind the work"), srs_id: system };
   return { content: { ...content, extent: [left, top - whole, left + whole, top] }, known: { matrices, bounds } };
 }

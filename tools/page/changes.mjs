@@ -1,6 +1,8 @@
 // What two sides changed of one row: what the form saw, what it says now, and what stands in the package.
 
 import { noteOf, placeOfNote, wordOf } from "./notes.mjs";
+import { parted, withTold } from "./told.mjs";
+import { laterOf, signatureIn, signed, unsigned } from "./signing.mjs";
 
 /**
  * @typedef {{ id: number, title: string, note: string, amount: number }} Row
@@ -14,23 +16,25 @@ const MOST_NOTE = 1000;
 export const PARTS = ["title", "place", "note", "amount"];
 
 /**
- * The parts of a row: its note without the place's word.
+ * The parts of a row: its note without the place's word and what the device told of that, which goes with it, and
+ * without who saved it and when.
  * @param {Row} row
  * @param {number | null} only the system of all maps
  * @returns {Record<string, string | number>}
  */
 export function partsOf({ title, note, amount }, only) {
-  const place = placeOfNote(note, only);
-  return { title, place: wordOf(place), note: place ? place.rest : note, amount };
+  const own = unsigned(note), place = placeOfNote(own, only), { told, rest } = parted(place ? place.rest : own);
+  return { title, place: [wordOf(place), told].filter(it => it).join(" "), note: rest, amount };
 }
 
 /**
- * Whether two rows are letter by letter the same; a row that isn't there is null.
+ * Whether two rows are letter by letter the same, but for who saved them and when; a row that isn't there is null.
  * @param {Row | null | undefined} one
  * @param {Row | null | undefined} other
  */
 export const isSameRow = (one, other) => one && other
-  ? one.title === other.title && one.note === other.note && one.amount === other.amount : !one && !other;
+  ? one.title === other.title && unsigned(one.note) === unsigned(other.note) && one.amount === other.amount
+  : !one && !other;
 
 /**
  * The parts by which two rows differ.
@@ -41,16 +45,19 @@ export const isSameRow = (one, other) => one && other
 export function differing(one, other, only) {
   const [here, there] = [partsOf(one, only), partsOf(other, only)];
   const found = PARTS.filter(it => here[it] !== there[it]);
-  const isBySpace = one.note !== other.note && !found.includes("place") && !found.includes("note");
+  const isBySpace = unsigned(one.note) !== unsigned(other.note) && !found.includes("place") && !found.includes("note");
   return isBySpace ? [...found, "note"] : found;
 }
 
 /** @type {(row: Row) => boolean} */
 const isTooLong = ({ note }) => new TextEncoder().encode(note).length > MOST_NOTE;
 
+/** @type {(row: Row) => Row} */
+const bare = row => ({ ...row, note: unsigned(row.note) });
+
 /**
  * The row of both sides: each part from who alone changed it, and those that both changed from one of them. A note that
- * one side alone changed stays letter by letter.
+ * one side alone changed stays letter by letter. Who saved it is who did so later.
  * @param {Row} saw
  * @param {Row} mine
  * @param {Row} theirs
@@ -59,12 +66,20 @@ const isTooLong = ({ note }) => new TextEncoder().encode(note).length > MOST_NOT
  * @returns {Row}
  */
 function mergedRow(saw, mine, theirs, only, isMine) {
+  const row = mergedParts(bare(saw), bare(mine), bare(theirs), only, isMine);
+  const [own, other] = [mine, theirs].map(it => signatureIn(it.note).signature);
+  return { ...row, note: signed(row.note, laterOf(own, other)) };
+}
+
+/** @type {typeof mergedRow} */
+function mergedParts(saw, mine, theirs, only, isMine) {
   const here = differing(saw, mine, only), there = differing(saw, theirs, only);
   /** @type {(part: string) => Row} */
   const from = part => here.includes(part) && (isMine || !there.includes(part)) ? mine : theirs;
   const [place, rest] = [from("place"), from("note")];
+  const text = withTold(String(partsOf(rest, only).note), parted(place.note).told);
   const note = mine.note === saw.note ? theirs.note : theirs.note === saw.note ? mine.note
-    : place === rest ? place.note : noteOf(placeOfNote(place.note, only), String(partsOf(rest, only).note));
+    : place === rest ? place.note : noteOf(placeOfNote(place.note, only), text);
   return { id: mine.id, title: from("title").title, note, amount: from("amount").amount };
 }
 
@@ -85,6 +100,18 @@ export function settled(saw, mine, theirs, only, isMine) {
 }
 
 /**
+ * What comes of a row that stands as it is wanted: who saved it is who did so later.
+ * @param {Row} mine
+ * @param {Row} theirs
+ * @returns {Verdict}
+ */
+function isSigned(mine, theirs) {
+  const [own, other] = [mine, theirs].map(it => signatureIn(it.note).signature), later = laterOf(own, other);
+  return later === own ? { is: "mine", row: mine }
+    : { is: "joined", row: { ...mine, note: signed(mine.note, later) }, parts: [] };
+}
+
+/**
  * What comes of a row that a form changed, where another may have changed it meanwhile. `saw` is the row as the form
  * showed it, null of a new one, undefined where that isn't known; `theirs` is null where there is none.
  * @param {Row | null | undefined} saw
@@ -94,7 +121,8 @@ export function settled(saw, mine, theirs, only, isMine) {
  * @returns {Verdict}
  */
 export function joined(saw, mine, theirs, only) {
-  if (isSameRow(mine, theirs) || !theirs && !saw || isSameRow(saw, theirs)) return { is: "mine", row: mine };
+  if (theirs && isSameRow(mine, theirs)) return isSigned(mine, theirs);
+  if (!theirs && !saw || isSameRow(saw, theirs)) return { is: "mine", row: mine };
   if (!theirs) return { is: "apart", parts: [] };
   if (!saw) return { is: "apart", parts: differing(mine, theirs, only) };
   const here = differing(saw, mine, only), there = differing(saw, theirs, only), unlike = differing(mine, theirs, only);

@@ -22,8 +22,10 @@ function keepDraft(durability = "relaxed") {
   if (!form) return;
   const { table, row, fresh, act, place, saw, system } = form;
   const values = FIELDS.map(it => byId(it).value);
-  const kept = drafts(durability).put({ table, row, fresh, act: act?.number, place, saw, system, values }, tab);
-  isKept(kept.transaction);
+  const draft = { table, row, fresh, act: act?.number, place, saw, system, values, drawing: drawingNow() };
+  const { transaction } = drafts(durability).put(draft, tab);
+  isKept(transaction);
+  transaction.commit();  // a page that goes hears no more that it was put, and would take it back
 }
 
 /** Keeps which photos aren't saved yet, with the number of their row, and the bytes of one that has come. */
@@ -36,6 +38,7 @@ function keepPhotos(photo = null) {
   change.objectStore("drafts").put({ of: form.row.id, photos: [], ids: form.photos.map(it => it.id) }, tab + 1);
   change.oncomplete = () => { if (photo) photo.isKept = true; };
   isKept(change);
+  change.commit();
 }
 
 /** Says in the form where the browser doesn't keep what is typed or taken in it. */
@@ -44,7 +47,7 @@ function isKept(transaction) {
   transaction.onabort = () => {
     const why = whyNotKept(transaction.error);
     if (form !== now || now.isUnsaved) return;  // Save has said more
-    byId("told").textContent = `What is in this form isn't kept (${why}): save it soon.`;
+    byId("told").textContent = phrase("What is in this form isn't kept ({0}): save it soon.", why);
   };
 }
 
@@ -117,14 +120,16 @@ async function photosOfDraft({ ids, photos }) {
 }
 
 /** Fills the form with a draft, the act that it changes, if any, and its photos. */
-function fillForm({ table, row, fresh, place, values, saw, system }, act, photos) {
+function fillForm({ table, row, fresh, place, values, saw, system, drawing }, act, photos) {
   openForm({ table, row, fresh, act, saw, system });
   for (const [at, it] of FIELDS.entries()) byId(it).value = values[at];
   setOf(form, { table: byId("into").value, place, photos });
+  showFields();
   if (placeOfForm() !== null) tap(false);
+  drawAgain(drawing);
   showPlace();
   showPhotos();
-  byId("told").textContent = "This wasn't saved yet.";
+  byId("told").textContent = phrase("This wasn't saved yet.");
 }
 
 async function throwDraftAway(owner) {
@@ -141,12 +146,12 @@ async function tellLeft() {
 
 /** A draft that a tab has left, in words, and the buttons that go on with it. */
 function leftItem({ owner, row, values: [, title] }) {
-  const item = listItem(title || nameOf(row), "typed in a tab that is closed, and not saved");
-  buttonIn(item, "Open", () => {
+  const item = listItem(title || nameOf(row), phrase("typed in a tab that is closed, and not saved"));
+  buttonIn(item, phrase("Open"), () => {
     if (isHeld()) return;
     closeForm();
     openDraft(owner);
   });
-  twice(buttonIn(item, "Throw away"), () => throwDraftAway(owner));
+  twice(buttonIn(item, phrase("Throw away")), () => throwDraftAway(owner));
   return item;
 }

@@ -28,7 +28,7 @@ class Told {
  * The bytes of Exif in a JPEG; null where it has none.
  * @param {DataView} file
  */
-function exifIn(file) {
+export function exifIn(file) {
   if (file.byteLength < 4 || file.getUint16(0) !== 0xffd8) return null;
   for (let at = 2; at + 10 <= file.byteLength && file.getUint8(at) === 0xff;) {
     const marker = file.getUint8(at + 1), size = file.getUint16(at + 2);
@@ -42,11 +42,17 @@ function exifIn(file) {
 }
 
 /**
+ * What bytes of Exif tell, in the order that they say.
+ * @param {DataView} exif
+ */
+export const toldIn = exif => new Told(exif, exif.getUint16(0) === 0x4949);
+
+/**
  * The entries of a directory of TIFF, by their tags: the type, how many values, and where these stand.
  * @param {Told} told
  * @param {number} at
  */
-function entriesAt(told, at) {
+export function entriesAt(told, at) {
   const count = Math.min(told.short(at), MOST_ENTRIES), entries = new Map();
   for (let it = at + 2; it < at + 2 + 12 * count; it += 12) {
     const [type, many] = [told.short(it + 2), told.long(it + 4)];
@@ -78,7 +84,7 @@ export function placeOfPhoto(bytes) {
   try {
     const exif = exifIn(new DataView(bytes));
     if (!exif) return null;
-    const told = new Told(exif, exif.getUint16(0) === 0x4949), gps = entriesAt(told, told.long(4)).get(GPS);
+    const told = toldIn(exif), gps = entriesAt(told, told.long(4)).get(GPS);
     if (gps?.type !== LONG) return null;
     const entries = entriesAt(told, told.long(gps.at));
     const [latitude, longitude] = [degreesOfCamera(told, entries, 1), degreesOfCamera(told, entries, 3)];

@@ -1,8 +1,9 @@
 // Rows as the text of a file: a table (CSV), GeoJSON, or waypoints (GPX).
 
 import { degreesOf } from "./degrees.mjs";
-import { placeOfNote } from "./notes.mjs";
-import { columnsIn, freeNames, heightIn, typeOf } from "./notewords.mjs";
+import { placeOfNote, wordOf } from "./notes.mjs";
+import { columnsIn, freeNames, heightIn, columnOrder, typeOf } from "./notewords.mjs";
+import { toSay } from "./tongue.mjs";
 
 /**
  * @typedef {import("./changes.mjs").Row & { waits?: string }} Listed
@@ -10,13 +11,15 @@ import { columnsIn, freeNames, heightIn, typeOf } from "./notewords.mjs";
  * @typedef {{ row: Listed, state: string, place: import("./notes.mjs").Place | null, rest: string,
  *   degrees: { longitude: number, latitude: number } | null, words: Map<string, string> }} Told
  * @typedef {{ name: string, column: string, type: "INTEGER" | "REAL" | "TEXT" }} Column
- * @typedef {{ table: string, identifier: string, when: string, rows: Told[], columns: Column[] }} Listing
+ * @typedef {{ table: string, identifier: string, when: string, rows: Told[], columns: Column[],
+ *   beyond: string[] }} Listing
+ * @typedef {{ longitude: number, latitude: number }} Degrees
  */
 
-// By what a row waits for, whether the package has it, in the words of docs/PAGE.md.
+// By what a row waits for, whether the package has it, in the words of docs/PAGE.md: files have them in English.
 /** @type {Record<string, string>} */
-const STATES = { waits: "to send", refused: "refused", changed: "changed meanwhile" };
-const IN_PACKAGE = "in the package";
+const STATES = toSay({ waits: "to send", refused: "refused", changed: "changed meanwhile" });
+const IN_PACKAGE = toSay("in the package");
 const FIXED = ["id", "title", "note", "amount", "state", "system", "east", "north", "longitude", "latitude"];
 const GEOMETRY = "geom";  // a column of a layer of points that the office exports
 const DIGITS = 9;         // of degrees: a tenth of a millimetre
@@ -33,12 +36,15 @@ export const stateOf = ({ waits }) => STATES[waits ?? ""] ?? IN_PACKAGE;
  * @param {Listed[]} list
  * @param {number | null} only the system of all maps
  * @param {Record<string, System>} systems those that the page can reckon, by their numbers
+ * @param {{ found: Map<string, Degrees>, words: string[] }} [beyond] by their words, places that were brought over
+ *   from other systems, and what is to be said of these
  * @returns {Listing}
  */
-export function listingOf(of, list, only, systems) {
+export function listingOf(of, list, only, systems, beyond = { found: new Map(), words: [] }) {
   const rows = list.map(row => {
     const place = placeOfNote(row.note, only), system = place && systems[place.system];
-    const degrees = place && system ? degreesOf(system, Number(place.east), Number(place.north)) : null;
+    const degrees = place && system ? degreesOf(system, Number(place.east), Number(place.north))
+      : beyond.found.get(wordOf(place)) ?? null;
     return { row, state: stateOf(row), place, degrees, ...columnsIn(place ? place.rest : row.note) };
   });
   /** @type {Map<string, string[]>} */
@@ -50,9 +56,9 @@ export function listingOf(of, list, only, systems) {
       them.push(value);
     }
   }
-  const free = freeNames([...values.keys()], [...FIXED, GEOMETRY]);
-  const columns = [...values].map(([name, them]) => ({ name, column: free.get(name) ?? name, type: typeOf(them) }));
-  return { ...of, rows, columns };
+  const names = columnOrder([...values.keys()]), free = freeNames(names, [...FIXED, GEOMETRY]);
+  const columns = names.map(name => ({ name, column: free.get(name) ?? name, type: typeOf(values.get(name) ?? []) }));
+  return { ...of, rows, columns, beyond: beyond.words };
 }
 
 /** @type {(rows: Told[]) => string} */
@@ -66,14 +72,14 @@ const titleOf = ({ id, title }) => title || `(no title) ${id}`;
  * @param {Listing} listing
  * @param {string} kind
  */
-export function wordsOfListing({ table, identifier, when, rows }, kind) {
+export function wordsOfListing({ table, identifier, when, rows, beyond }, kind) {
   const waiting = rows.filter(it => it.state !== IN_PACKAGE), bare = rows.filter(it => !it.place);
   const places = rows.flatMap(({ row, place, degrees }) => place && !degrees
     ? [`${titleOf(row)} at east ${place.east}, north ${place.north} of system ${place.system}`] : []);
   const isOut = kind === "gpx" ? "is left out" : "has no geometry";
   const words = [`${numberOf(rows)} of ${identifier === table ? table : `${identifier} (${table})`}, listed ${when}.`];
   if (waiting.length) words.push(`Not in the package yet: ${numberOf(waiting)}, whose state says why.`);
-  words.push("Longitude and latitude are of WGS 84, for which ETRS89 is taken: less than a metre.");
+  words.push("Longitude and latitude are of WGS 84, for which ETRS89 is taken: less than a metre.", ...beyond);
   if (bare.length) words.push(`What has no place ${isOut}: ${numberOf(bare)}.`);
   if (places.length) {
     words.push(`What has a place that the page can't tell in degrees ${isOut}; in metres: ${places.join("; ")}.`);

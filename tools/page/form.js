@@ -17,8 +17,8 @@ const nextTurn = () => form.turn = (form.turn ?? 0) + 1;
 
 /** Whether what is typed or taken in the form would be lost; then that is said. */
 function isHeld() {
-  const held = form !== null && (typed() !== form.before || form.coming > 0);
-  if (held) byId("told").textContent = "Save or close this row first.";
+  const held = form !== null && (typed() !== form.before || form.coming > 0 || isDrawn());
+  if (held) byId("told").textContent = phrase("Save or close this row first.");
   if (held) byId("edit").scrollIntoView({ block: "end" });
   return held;
 }
@@ -48,17 +48,19 @@ function openForm({ table, row, fresh, act = null, photos = [], saw, system = sh
   form = { table, row, fresh, act, photos, place, from, system, saw: isKnown ? saw : fresh ? null : plain(row) };
   Object.assign(form, { coming: 0, taken: Promise.resolve(), asked: null, shot: null });
   hold(false);
+  if (isDrawing()) measure(false);
   for (const it of ["remove", "leave"]) byId(it).dispatchEvent(new Event("blur"));
-  byId("which").textContent = act?.refused ? `Refused: ${act.refused}` : act ? "Changed meanwhile by another"
-    : fresh ? "A new row" : `Row ${row.id}`;
+  byId("which").textContent = act?.refused ? phrase("Refused: {0}", wordsOfRefusal(act.refused))
+    : act ? phrase("Changed meanwhile by another") : fresh ? phrase("A new row") : phrase("Row {0}", row.id);
   byId("other").hidden = !fresh || tables().length < 2;
   byId("into").value = table;
-  const values = { title: row.title, note: place ? place.rest : row.note, amount: row.amount };
+  const values = { title: row.title, note: unsigned(place ? place.rest : row.note), amount: row.amount };
   Object.assign(values, { east: place?.east ?? "", north: place?.north ?? "" });
   for (const [name, value] of Object.entries(values)) byId(name).value = value;
   tellSlip(null, "");
   form.before = typed();
   form.first = wordsTyped();
+  showFields();
   byId("remove").hidden = fresh;
   byId("edit").hidden = false;
   tap(fresh && !place && !act && Boolean(map));
@@ -66,6 +68,7 @@ function openForm({ table, row, fresh, act = null, photos = [], saw, system = sh
   showPhotos();
   showPlace();
   offerPlaceOfPhoto();
+  offerPast();
   bringIntoSight(place);
   byId("edit").scrollIntoView({ block: "nearest" });
   // Under fingers a field that has the focus brings up the keys, which cover the map.
@@ -81,6 +84,8 @@ const wordsTyped = () => ({ title: byId("title").value, note: byId("note").value
 function closeForm() {
   const from = form?.from;
   form = null;
+  if (isDrawing()) measure(false);
+  drawKnown();
   drafts("relaxed").delete(ownKeys());
   sweep();
   byId("edit").hidden = true;
@@ -93,14 +98,17 @@ function closeForm() {
 function whyNoRow(title, note, place, amount) {
   const long = text => new TextEncoder().encode(text).length > MOST_TEXT;
   if (place === undefined) {
-    return ["east", "East and north are two numbers of metres, with at most six decimals; or leave both empty."];
+    return ["east",
+      phrase("East and north are two numbers of metres, with at most six decimals; or leave both empty.")];
   }
-  if (place && place.system === null) return ["east", "A place wants a map that is shown, whose system it is in."];
+  if (place && place.system === null) {
+    return ["east", phrase("A place wants a map that is shown, whose system it is in.")];
+  }
   if (!/^(0|-?[1-9][0-9]{0,15})$/.test(amount) || BigInt(amount) > MOST_AMOUNT || BigInt(amount) < -MOST_AMOUNT) {
-    return ["amount", "The amount is a whole number of at most 10^15, without leading zeros."];
+    return ["amount", phrase("The amount is a whole number of at most 10^15, without leading zeros.")];
   }
-  if (long(title)) return ["title", "The title has more than 1,000 bytes."];
-  if (long(note)) return ["note", "The note, with the place in it, has more than 1,000 bytes."];
+  if (long(title)) return ["title", phrase("The title has more than 1,000 bytes.")];
+  if (long(note)) return ["note", phrase("The note, with the place in it, has more than 1,000 bytes.")];
   return [null, ""];
 }
 
@@ -125,14 +133,16 @@ function rowOfForm(place) {
 
 /** Saves the form: its acts are in the outbox, on this browser's disk, before it closes. */
 async function save() {
-  if (!await photosAreTaken() || !await placeIsTold()) return;
+  if (!endDrawing() || !await photosAreTaken() || !await placeIsTold()) return;
   const place = placeOfForm(), { row, slip: [field, why] } = rowOfForm(place);
   tellSlip(field, why);
-  if (why || isDoubted(place)) return;
+  if (why || isDoubted(place) || areFieldsDoubted()) return;
   const table = form.fresh ? byId("into").value : form.table;
   if (form.photos.length && !photosOf(table)) return void (byId("told").textContent = NO_PHOTOS);
   const { act, fresh, saw, photos } = form, isSame = !act && !fresh && isSameRow(row, form.row);
-  const made = actsOfForm({ table, row, saw, isSame, photos, relation: photosOf(table), number: act?.number });
+  const media = photos.map(({ id, bytes }) => ({ id, type: typeOfFile(bytes) ?? undefined }));
+  const kept = isSame ? row : { ...row, note: signedNow(row.note) }, relation = photosOf(table);
+  const made = actsOfForm({ table, row: kept, saw, isSame, photos: media, relation, number: act?.number });
   await keepAndClose(made, photos, photosIn(act));
 }
 
@@ -142,7 +152,7 @@ function isDoubted(place) {
   const doubt = note === form.first.note && wordOf(place) === wordOf(placeIn(form.row.note)) ? ""
     : doubtOf(place, note, maps, rows.only);
   if (!doubt || form.doubt === doubt) return false;
-  byId("told").textContent = `${doubt}. Press Save again if that is right.`;
+  byId("told").textContent = phrase("{0}. Press Save again if that is right.", doubt);
   form.doubt = doubt;
   return true;
 }
@@ -152,7 +162,7 @@ async function photosAreTaken() {
   const now = form;
   if (!now.coming) return true;
   now.failed = "";
-  byId("told").textContent = "Waiting for the photo ..";
+  byId("told").textContent = phrase("Waiting for the photo ..");
   hold(true);
   await now.taken;
   hold(false);
@@ -164,7 +174,7 @@ async function photosAreTaken() {
 async function placeIsTold() {
   const now = form;
   if (!now.asked) return true;
-  byId("told").textContent = "Waiting for the device's place ..";
+  byId("told").textContent = phrase("Waiting for the device's place ..");
   hold(true);
   const told = await now.asked;
   if (form === now) hold(false);
@@ -188,7 +198,7 @@ async function keepAndClose(made, photos = [], gone = []) {
     byId("fresh").focus({ preventScroll: true });
   } catch (error) {
     now.isUnsaved = true;
-    byId("told").textContent = `This browser could not keep it (${whyNotKept(error)}): it isn't saved yet.`;
+    byId("told").textContent = phrase("This browser could not keep it ({0}): it isn't saved yet.", whyNotKept(error));
   } finally {
     if (!form || form === now) hold(false);
   }

@@ -11,7 +11,7 @@ function placeOfForm() {
 /** Tells the system of the form's place, and draws it. */
 function showPlace() {
   const system = form.place?.system ?? form.system;
-  byId("system").textContent = system === null ? "" : `in metres of system ${system}`;
+  byId("system").textContent = system === null ? "" : phrase("in metres of system {0}", system);
   showDraft();
 }
 
@@ -20,6 +20,7 @@ function setPlace(east, north, digits) {
   if (!form) return;
   [byId("east").value, byId("north").value] = [east.toFixed(digits), north.toFixed(digits)];
   setOf(form, { place: { system: shown.srs_id } });
+  dropTold();
   showPlace();
   keepDraft("strict");
 }
@@ -43,7 +44,7 @@ function tapped({ originalEvent, latlng }) {
 /** Asks the device for the form's place. */
 function placeByDevice() {
   if (form.asked) return;
-  byId("told").textContent = "asking the device ..";
+  byId("told").textContent = phrase("asking the device ..");
   setOf(form, { asked: takePlace(form, placeTyped()) });
 }
 
@@ -58,22 +59,21 @@ async function takePlace(now, before) {
   setOf(now, { asked: null });
   if (form !== now) return false;
   const isOurs = !place.why && placeTyped() === before;
-  if (isOurs) setPlace(place.east, place.north, 2);
-  if (isOurs) showDevice(place);
-  const words = isOurs ? `The device tells this place within ${Math.ceil(place.accuracy)} m.` : "";
-  byId("told").textContent = place.why ?? words;
+  byId("told").textContent = place.why ?? "";
+  if (isOurs) setPlaceTold(place);
   return !place.why;
 }
 
 /** Where the form's photo was taken, in metres of the map's system; null where that isn't told or can't be reckoned. */
-const photoAt = () => form?.shot && shown ? placeInSystem(rows.systems[shown.srs_id], form.shot) : null;
+const photoAt = () => placeHere(form?.shot);
 
 /** Offers the photo's place to the form, or says why that can't be; it is taken where its button is pressed alone. */
-function offerPlaceOfPhoto() {
+async function offerPlaceOfPhoto() {
+  if (form?.shot && shown && systemBeyond(shown.srs_id)) await bringOver(form.shot);
   const place = photoAt();
   byId("shot").hidden = !place;
   byId("noshot").textContent = !form?.shot || place ? ""
-    : "The photo tells where it was taken, and this page can't reckon that in the map's system.";
+    : phrase("The photo tells where it was taken, and this page can't reckon that in the map's system.");
 }
 
 /** Sets the place where the photo was taken. */
@@ -82,5 +82,6 @@ function placeByPhoto() {
   if (!place) return;
   setPlace(place.east, place.north, 2);
   bringIntoSight(placeOfForm());
-  byId("told").textContent = "The photo tells this place; how exact it is it doesn't tell.";
+  const words = phrase("The photo tells this place; how exact it is it doesn't tell.");
+  byId("told").textContent = `${words} ${wordsOfWorth(place.worth)}`.trim();
 }

@@ -2,7 +2,7 @@
 
 /** Lists the maps, the first on top, and the package's own where it has tiles. */
 function listLayers(own, lying) {
-  const mine = shown.table ? [itemOf(own, `${shown.identifier}, of the package`)] : [];
+  const mine = shown.table ? [itemOf(own, phrase("{0}, of the package", shown.identifier))] : [];
   byId("layers").replaceChildren(...mine, ...lying.map((it, at) => {
     const words = element("small", "");
     const item = it.layer ? itemOf(it.look, it.map.name) : element("li", it.map.name);
@@ -19,7 +19,7 @@ function itemOf(look, name) {
   const box = Object.assign(document.createElement("input"), { type: "checkbox", checked: look.on });
   const range = { type: "range", min: WEAKEST, max: 100, step: 10, value: look.strength, disabled: !look.on };
   const strength = Object.assign(document.createElement("input"), range);
-  strength.setAttribute("aria-label", `How strong: ${name}`);
+  strength.setAttribute("aria-label", phrase("How strong: {0}", name));
   box.addEventListener("change", () => { lookAnew(look, { on: box.checked }); focusOn(name, "[type=checkbox]"); });
   strength.addEventListener("change", () => {
     lookAnew(look, { strength: Number(strength.value) });
@@ -38,10 +38,10 @@ function focusOn(name, what) {
 
 /** By which column the shapes of a map have names. */
 function choiceOfNames(it) {
-  const names = it.map.columns.map(name => new Option(`By ${name}`, name));
-  const choice = element("select", new Option("No names", ""), ...names);
+  const names = it.map.columns.map(name => new Option(phrase("By {0}", name), name));
+  const choice = element("select", new Option(phrase("No names"), ""), ...names);
   choice.value = it.look.column;
-  choice.setAttribute("aria-label", `Names: ${it.map.name}`);
+  choice.setAttribute("aria-label", phrase("Names: {0}", it.map.name));
   choice.addEventListener("change", () => {
     lookAnew(it.look, { column: choice.value });
     focusOn(it.map.name, "select");
@@ -51,7 +51,7 @@ function choiceOfNames(it) {
 
 /** A button that moves a map in the list. */
 function mover(it, at, by, count) {
-  const button = Object.assign(element("button", by < 0 ? "Up" : "Down"), { type: "button" });
+  const button = Object.assign(element("button", phrase(by < 0 ? "Up" : "Down")), { type: "button" });
   Object.assign(button, { disabled: at + by < 0 || at + by >= count, className: by < 0 ? "up" : "down" });
   button.setAttribute("aria-label", `${button.textContent}: ${it.map.name}`);
   button.addEventListener("click", () => {

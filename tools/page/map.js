@@ -18,7 +18,7 @@ function tilesOf(pyramid) {
       const image = new Image(), place = `${pyramid.table}/${pyramid.matrices[z].zoom_level}/${x}/${y}`;
       ask(`${ROOT}tiles/${place}`, "blob", body => body.type === "application/octet-stream").then(async body => {
         const isDrawn = !body || await drawn(image, body);
-        if (!isDrawn) say("picture", `The tile ${place} is no picture that this browser draws.`);
+        if (!isDrawn) say("picture", phrase("The tile {0} is no picture that this browser draws.", place));
         done(null, image);
       });
       return image;
@@ -65,6 +65,7 @@ function show(pyramid) {
     ? [map.getCenter(), Math.round(zoomOf(pyramid, metresAt(shown, map.getZoom())))] : null;
   map?.remove();
   shown = pyramid;
+  L.Control.Zoom.mergeOptions({ zoomInTitle: phrase("Zoom in"), zoomOutTitle: phrase("Zoom out") });
   map = L.map("map", { crs: referenceOf(pyramid), minZoom: pyramid.least, maxZoom: pyramid.last + BESIDE,
     attributionControl: false, fadeAnimation: false, tap: false, wheelPxPerZoomLevel: 120 });
   map.on("move zoomend", tell);
@@ -82,6 +83,7 @@ function show(pyramid) {
   offerPlaceOfPhoto();
   showDraft();
   measureAnew();
+  drawTrack();
   showBehind();
 }
 
@@ -160,8 +162,8 @@ function toTiles() {
 /** Goes to an easting and a northing that were typed, with what may stand around them. */
 function goTo(text) {
   const told = placeTold(text), place = told && L.latLng(told[1], told[0]);
-  byId("gone").textContent = !place ? "Two numbers are asked for: easting, then northing."
-    : shown.bounds.contains(place) ? "" : "This place is outside the map.";
+  byId("gone").textContent = !place ? phrase("Two numbers are asked for: easting, then northing.")
+    : shown.bounds.contains(place) ? "" : phrase("This place is outside the map.");
   if (place) centreOn(place);
 }
 
@@ -174,7 +176,7 @@ function centreOn(place) {
 /** Tells where the pointer or a finger is; the centre where it is over a button, and behind keys. */
 function point(event) {
   pointed = event?.target.closest(".leaflet-control") === null ? map.mouseEventToContainerPoint(event) : null;
-  if (pointed) pointed.by = event.pointerType === "touch" ? "finger" : "pointer";
+  if (pointed) pointed.by = event.pointerType === "touch" ? phrase("finger") : phrase("pointer");
   tell();
 }
 
@@ -185,14 +187,15 @@ const digitsHere = () => Math.min(Math.max(Math.ceil(1 - Math.log10(metresAt(sho
 function tell() {
   const place = pointed ? map.containerPointToLatLng(pointed) : map.getCenter(), digits = digitsHere();
   const { zoom_level, pixel_x_size, pixel_y_size } = matrixOf(shown, map.getZoom());
-  const sides = [...new Set([pixel_x_size, pixel_y_size])].map(it => it / MICROMETRES).join(" by ");
+  const sides = [...new Set([pixel_x_size, pixel_y_size])].map(it => it / MICROMETRES);
   const larger = Math.min(pixel_x_size, pixel_y_size) / MICROMETRES / metresAt(shown, map.getZoom());
-  const beyond = larger > 1.5 ? `, ${Math.round(larger)} times larger`
-    : larger < 0.7 ? `, ${Math.round(1 / larger)} times smaller` : "";
+  const side = sides.length > 1 ? phrase("{0} by {1}", ...sides) : sides[0];
+  const scale = larger > 1.5 ? phrase("zoom {0}, {1} m a pixel, {2} times larger", zoom_level, side, Math.round(larger))
+    : larger < 0.7 ? phrase("zoom {0}, {1} m a pixel, {2} times smaller", zoom_level, side, Math.round(1 / larger))
+    : phrase("zoom {0}, {1} m a pixel", zoom_level, side);
   byId("map").classList.toggle("centre", !pointed);
   const [east, north] = [`E ${place.lng.toFixed(digits)} m,`, `N ${place.lat.toFixed(digits)} m`];
-  const by = element("small", `(${pointed ? pointed.by : "centre"})`);
-  const scale = element("small", `zoom ${zoom_level}, ${sides} m a pixel${beyond}`);
+  const by = element("small", `(${pointed ? pointed.by : phrase("centre")})`);
   const [at, high] = [east, north].map(it => element("span", it));
-  byId("position").replaceChildren(at, " ", high, " ", by, element("br", ""), scale);
+  byId("position").replaceChildren(at, " ", high, " ", by, element("br", ""), element("small", scale));
 }

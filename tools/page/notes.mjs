@@ -2,6 +2,7 @@
 
 export const LEAST_CLOCK = Date.UTC(2026, 0, 1);
 export const MOST_CLOCK = Date.UTC(2050, 0, 1);
+const SMALLEST = (LEAST_CLOCK - Date.UTC(2020, 0, 1)) * 4096;  // the numbers of an office are far smaller
 /** One of Unicode's White_Space, in a pattern. */
 export const SPACE = "[\\t-\\r \\x85\\xa0\\u1680\\u2000-\\u200a\\u2028\\u2029\\u202f\\u205f\\u3000]";
 const NUMBER = "(-?\\d{1,9}(?:\\.\\d{1,6})?)";
@@ -30,6 +31,23 @@ export function numberAt(now, chance) {
   const since = isWrong ? 2 ** 40 + high * 256 + (low >>> 24) : now - Date.UTC(2020, 0, 1);
   return since * 4096 + (low & 4095);
 }
+
+// The last 12 bits of the number of a line, an area or a track are 3840 to 4095.
+const SHAPES_FROM = 3840;
+
+/**
+ * A number that no other crew makes, of a line, an area or a track: by it these are told from other files of a row
+ * before they are asked for.
+ * @param {number} now the clock's milliseconds
+ * @param {ArrayLike<number>} chance two numbers of 32 bits
+ */
+export const shapeNumberAt = (now, chance) => numberAt(now, [chance[0], (chance[1] | SHAPES_FROM) >>> 0]);
+
+/**
+ * Whether a file of a row may be a line, an area or a track, by its number.
+ * @param {number} number
+ */
+export const isShapeNumber = number => number >= SMALLEST && number % 4096 >= SHAPES_FROM;
 
 /**
  * The place that a note tells, with the rest of the note; null where it tells none.

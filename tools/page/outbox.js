@@ -2,12 +2,12 @@
 // package's own, by the word of item 4, so that nothing goes to another package at the same address.
 //
 // An act is one list of records (records.mjs): { number, at, saved, table, of, what, records, row or dropped, saw,
-// then, refused, apart, told }. The bytes of a photo stand by its number in a store beside. A list that was cut is sent
-// again whole: a row or a photo that stands is written again, and what is refused since it stands already, or is gone
-// already, is as it should be. 'then' is a list that is sent behind it, once it is done. 'at' is the key it was saved
-// under, and 'saved' another number each time that it is saved. 'saw' is the row as the form showed it, null of a new
-// one; 'apart' says how another has changed that meanwhile; 'told' is what is left of an act that stands joined with
-// such a change.
+// then, refused, apart, told, past }. The bytes of a photo stand by its number in a store beside. A list that was cut
+// is sent again whole: a row or a photo that stands is written again, and what is refused since it stands already, or
+// is gone already, is as it should be. 'then' is a list that is sent behind it, once it is done. 'at' is the key it was
+// saved under, and 'saved' another number each time that it is saved. 'saw' is the row as the form showed it, null of a
+// new one; 'apart' says how another has changed that meanwhile; 'told' is what is left of an act that stands joined
+// with such a change. 'past' is what its row was, as it was kept before the act was sent (past.mjs).
 
 const KEY = ROOT.split("/")[1];
 const DRAW_AGAIN = 200;  // milliseconds from one count of what waits to the next, while that is sent
@@ -24,7 +24,7 @@ const done = request => new Promise((good, bad) => {
 });
 
 /** Why a browser keeps nothing, in words: an error of a full storage has a name and no message. */
-const whyNotKept = error => error?.name === "QuotaExceededError" ? "its storage is full"
+const whyNotKept = error => error?.name === "QuotaExceededError" ? phrase("its storage is full")
   : error?.message || error?.name || String(error);
 
 /** Opens the outbox of a package. */
@@ -188,7 +188,7 @@ async function bodyOf(records) {
  */
 async function keepAsFile() {
   const bodies = [];  // of one act behind another, so that the photos of one alone are in memory
-  for (const act of outbox.waiting) bodies.push(await bodyOf(recordsToKeep(act)));
+  for (const act of outbox.waiting) bodies.push(await bodyOf(recordsToLeave(act)));
   const href = URL.createObjectURL(new Blob(bodies)), day = new Date().toISOString().slice(0, 10);
   Object.assign(document.createElement("a"), { href, download: `not-in-the-package-${day}.csv` }).click();
   setTimeout(() => URL.revokeObjectURL(href), PATIENCE);

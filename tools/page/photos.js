@@ -2,7 +2,7 @@
 // picture is drawn at a time: one of 12 megapixels takes 50 MB.
 
 const PHOTO_SIDE = 2048, PHOTO_BYTES = 4194304, SMALL_SIDE = 384;
-const NO_PHOTOS = "The package relates no photos to this table.";
+const NO_PHOTOS = phrase("The package relates no photos to this table.");
 
 let drawing = Promise.resolve();  // the pictures that are drawn, one behind another
 const smalls = new WeakMap();     // by form, what is drawn small of its photos
@@ -16,11 +16,16 @@ const photosOf = table => rows.relations.find(it => it.base === table && it.name
  */
 async function showPhotos() {
   const now = form, turn = nextTurn(), relation = photosOf(form.table);
+  endSound();
+  for (const it of ["shoot", "record"]) byId(it).disabled = !relation;
+  offerDrawing(Boolean(relation));
+  offerTrack();
+  showLines();
   byId("camera").disabled = byId("pictures").disabled = !relation;
   byId("thumbnails").ariaBusy = "true";
   const parts = await Promise.all([photosThere(now), photosThatWait(now), photosChosen(now)]);
   if (form !== now || now.turn !== turn) return;
-  const comes = () => Object.assign(element("li", "a photo comes .."), { className: "comes" });
+  const comes = () => Object.assign(element("li", phrase("a photo comes ..")), { className: "comes" });
   const none = relation ? [] : [element("li", NO_PHOTOS)], more = Array.from({ length: now.coming }, comes);
   byId("thumbnails").replaceChildren(...[none, ...parts, more].flat().filter(it => it));
   byId("thumbnails").ariaBusy = "false";
@@ -28,8 +33,10 @@ async function showPhotos() {
 
 /** The photos of a form that were chosen. */
 const photosChosen = now => Promise.all(now.photos.map(async photo => {
-  const picture = await smallOf(now, photo.id, async () => new Blob([photo.bytes]));
-  return thumbnail(picture, "not saved yet", "Leave out", () => {
+  const picture = await smallOf(now, photo.id, async () => bodyOfBytes(photo.bytes));
+  const words = isPaper(picture.type) && photo.name ? phrase("{0}, not saved yet", photo.name)
+    : phrase("not saved yet");
+  return thumbnail(picture, words, phrase("Leave out"), () => {
     setOf(now, { photos: now.photos.filter(it => it !== photo) });
     keepPhotos();
     showPhotos();
@@ -40,21 +47,27 @@ const photosChosen = now => Promise.all(now.photos.map(async photo => {
 const photosThatWait = now => Promise.all(outbox.waiting
   .filter(it => it.number !== now.act?.number && it.table === now.table && it.of === now.row.id)
   .flatMap(act => photosIn(act).map(async id => {
-    const picture = await smallOf(now, id, async () => new Blob([await photoOf(id) ?? ""]));
-    return picture.size && thumbnail(picture, act.refused ? "refused" : "waits");
+    const picture = await smallOf(now, id, async () => bodyOfBytes(await photoOf(id)));
+    return picture.size && thumbnail(picture, phrase(act.refused ? "refused" : "waits"));
   })));
 
 /** The photos of a form's row in the package. */
 async function photosThere(now) {
   const { table, row } = now;
   const related = rows.stood.has(row.id) ? await ask(`${ROOT}related/${table}/${row.id}`, "json", isRelated) : [];
-  if (!related) return saidOf("gone") ? [element("li", "The photos of the package aren't to be had now.")] : [];
-  return Promise.all(related.filter(it => it.name === "media").map(async it => {
-    const address = `${ROOT}media/${it.table}/${it.id}`;
-    const picture = await smallOf(now, address, () => ask(address, "blob"));
-    return picture && thumbnail(picture, `${it.table} ${it.id}`, "Take off", () => takeOff(it), address);
-  }));
+  if (!related) return saidOf("gone") ? [element("li", phrase("The photos of the package aren't to be had now."))] : [];
+  const files = related.filter(it => it.name === "media"), addresses = files.map(it => addressOf(it.table, it.id));
+  const load = address => smallOf(now, address, () => ask(address, "blob"));
+  const bodies = await Promise.all(addresses.map(load));
+  if (form === now) shapesOfRow(now, files, bodies);
+  return bodies.map((body, at) => {
+    const { table: of, id } = files[at], off = () => takeOff(files[at], body.type);
+    return body && thumbnail(body, `${of} ${id}`, phrase("Take off"), off, addresses[at]);
+  });
 }
+
+/** A photo's or a file's bytes, with their type where that is known. */
+const bodyOfBytes = bytes => new Blob([bytes ?? ""], { type: typeOfFile(bytes) ?? "" });
 
 /** A picture of a form, made small once; null where it isn't to be had. */
 async function smallOf(now, key, load) {
@@ -69,8 +82,9 @@ function smallsOf(now) {
   return smalls.get(now);
 }
 
-/** A picture made small; what is none stays as it is. */
-const smallPicture = body => !body?.size ? body : withImage(body, image => smallOfImage(image, body)).catch(() => body);
+/** A picture made small; what is none stays as it is, and a shape has words. */
+const smallPicture = body => !body?.size ? body : isShape(body.type) ? withWords(body) : isPaper(body.type) ? body
+  : withImage(body, image => smallOfImage(image, body)).catch(() => body);
 
 /** Does something with a picture, which alone is drawn meanwhile. */
 function withImage(body, act) {
@@ -92,12 +106,14 @@ function smallOfImage(image, body) {
   return part < 1 ? jpegOf(image, part) : body;
 }
 
-/** A photo, small, with what becomes of it. One that has an address is a link to it. */
+/** A photo, small, or a file, with what becomes of it. One that has an address is a link to it. */
 function thumbnail(body, words, button, act, address) {
   const image = new Image(), frame = element(address ? "a" : "span", image);
   if (address) Object.assign(frame, { href: address, target: "_blank", rel: "noopener" });
-  drawn(image, body).then(picture => picture ? image.alt = words : frame.replaceChildren(body.type || "no picture"));
-  const item = element("li", frame, element("small", words));
+  const none = () => frame.replaceChildren(isPaper(body.type) ? wordsOfFile(body) : body.type || phrase("no picture"));
+  if (isPaper(body.type)) none();
+  else drawn(image, body).then(picture => picture ? image.alt = words : none());
+  const item = element("li", frame, element("small", words), ...playButton(body, words));
   if (!button) return item;
   const made = Object.assign(element("button", button), { type: "button" });
   if (address) twice(made, act); else made.addEventListener("click", act);
@@ -106,34 +122,43 @@ function thumbnail(body, words, button, act, address) {
 }
 
 /** Takes a photo off the form's row, and out of the package where nothing else is related to it. */
-function takeOff({ mapping, table, id }) {
+function takeOff({ mapping, table, id }, type) {
   const records = [["map-drop", mapping, form.row.id, id], ["media-drop", table, id]];
-  return post([{ table: form.table, of: form.row.id, what: `take photo ${id} off ${nameOf(form.row)}`, records }]);
+  const what = `take ${nounOf(type)} ${id} off ${nameOf(form.row)}`;
+  return post([{ table: form.table, of: form.row.id, what, records }]);
 }
 
-/** Takes pictures that were chosen into the form, one behind another. */
+/** Takes files that were chosen into the form, one behind another. */
 async function choose(event) {
-  const now = form, input = event.target, files = [...input.files];
+  const now = form, input = event.target;
   if (!now) return;
-  byId("told").textContent = "";
-  const taken = files.reduce((before, file) => before.then(() => take(now, file)), now.taken);
-  setOf(now, { coming: now.coming + files.length, taken });
-  showPhotos();
-  await now.taken;
+  await bring(now, [...input.files].map(file => ({ name: file.name, file })));
   input.value = "";
 }
 
-/** Takes a picture into a form, which may be closed meanwhile. */
-async function take(now, file) {
-  const photo = { id: freshId(), bytes: null };
+/** Takes files, or what comes to be some, into a form, one behind another. */
+async function bring(now, files) {
+  byId("told").textContent = "";
+  const taken = files.reduce((before, it) => before.then(() => take(now, it)), now.taken);
+  setOf(now, { coming: now.coming + files.length, taken });
+  showPhotos();
+  await now.taken;
+}
+
+/** Takes a picture, PDF or sound into a form, which may be closed meanwhile. */
+async function take(now, { name, file }) {
+  let photo = null, why = phrase("{0} is no picture that this browser draws, no PDF, no sound and no line.", name);
   try {
-    const { whole, small } = await withImage(file, shrunk);
+    const given = await file, head = await given.slice(0, HEAD).arrayBuffer(), type = typeOfFile(head);
+    const isFile = isPaper(type);
+    photo = { id: freshId(type), bytes: null, name };
+    why = isFile && whyTooLong(name, given.size, PHOTO_BYTES) || why;
+    const { whole, small } = await (isFile ? fileFrom(given) : withImage(given, it => photoFrom(it, given, head)));
     photo.bytes = await whole.arrayBuffer();
     smallsOf(now).set(photo.id, Promise.resolve(small));
-    const shot = await file.slice(0, HEAD).arrayBuffer().then(placeOfPhoto).catch(() => null);
-    setOf(now, { photos: [...now.photos, photo], shot: shot ?? now.shot });
+    setOf(now, { photos: [...now.photos, photo], shot: placeOfPhoto(head) ?? now.shot });
   } catch {
-    setOf(now, { failed: `${file.name} is no picture that this browser draws.` });
+    setOf(now, { failed: why });
     if (form === now) byId("told").textContent = now.failed;
   }
   setOf(now, { coming: now.coming - 1 });
@@ -143,17 +168,55 @@ async function take(now, file) {
   offerPlaceOfPhoto();
 }
 
-/** A picture as JPEG, drawn smaller until the package takes it, and made small. */
-async function shrunk(image) {
+/** Each byte of a PDF or of sound, where that isn't too long. */
+async function fileFrom(file) {
+  if (file.size > PHOTO_BYTES) throw new RangeError("it is too long");
+  const whole = bodyOfBytes(await file.arrayBuffer());
+  return { whole, small: await smallPicture(whole) };
+}
+
+/** What a file is, and its size; of a shape its length and its area. */
+const wordsOfFile = ({ type, size, told }) => told ?? `${kindOfFile(type)}, ${wordsOfSize(size)}`;
+
+/**
+ * A picture as the package takes it, and made small: each byte of a JPEG that is small enough, else a JPEG that is
+ * drawn anew, with the Exif of the first.
+ */
+async function photoFrom(image, file, head) {
+  const isSmall = Math.max(image.width, image.height) <= PHOTO_SIDE && file.size <= PHOTO_BYTES;
+  if (!isSmall || !isJpeg(head)) return shrunk(image, head);
+  const whole = new Blob([await file.arrayBuffer()], { type: "image/jpeg" });
+  return { whole, small: await smallOfImage(image, whole) };
+}
+
+/** A picture as JPEG with its Exif, drawn smaller until the package takes them, and made small. */
+async function shrunk(image, head) {
   for (let side = PHOTO_SIDE; ; side /= 2) {
-    const whole = await jpegOf(image, Math.min(1, side / Math.max(image.width, image.height)));
+    const part = Math.min(1, side / Math.max(image.width, image.height)), [width, height] = sizeOf(image, part);
+    const exif = segmentCarried(head, width, height), whole = await jpegWith(await jpegOf(image, part), exif);
     if (whole.size <= PHOTO_BYTES) return { whole, small: await smallOfImage(image, whole) };
   }
 }
 
+/**
+ * A JPEG with a segment of Exif behind its first marker; as it is where there is none. It is of one part: Firefox draws
+ * no picture of several.
+ */
+async function jpegWith(whole, exif) {
+  if (!exif) return whole;
+  const bytes = new Uint8Array(await whole.arrayBuffer()), made = new Uint8Array(bytes.length + exif.length);
+  made.set(bytes.subarray(0, 2));
+  made.set(exif, 2);
+  made.set(bytes.subarray(2), 2 + exif.length);
+  return new Blob([made], { type: "image/jpeg" });
+}
+
+/** The width and the height of a part of a picture's size. */
+const sizeOf = (image, part) => [image.width, image.height].map(it => Math.max(1, Math.round(it * part)));
+
 /** A part of a picture's size as JPEG, on white where it is clear. */
 async function jpegOf(image, part) {
-  const [width, height] = [image.width, image.height].map(it => Math.max(1, Math.round(it * part)));
+  const [width, height] = sizeOf(image, part);
   const canvas = Object.assign(document.createElement("canvas"), { width, height }), ground = canvas.getContext("2d");
   ground.fillStyle = "#fff";
   ground.fillRect(0, 0, width, height);

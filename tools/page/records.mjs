@@ -1,13 +1,16 @@
 // The records of an act (docs/FORMATS.md, section 4), which has one list of them: what a form saves, what a removal
 // takes along, and what puts that back.
 
+import { nounOf } from "./media.mjs";
+
 /**
  * @typedef {import("./changes.mjs").Row} Row
  * @typedef {(string | number)[]} Fields
  * @typedef {{ number?: number, at?: string, saved?: number, table: string, of?: number, what: string,
  *   records: Fields[], row?: Row, dropped?: number, saw?: Row | null, then?: Fields[], refused?: string,
- *   apart?: { theirs: Row | null, parts: string[] }, told?: Told }} Act
+ *   apart?: { theirs: Row | null, parts: string[] }, told?: Told, past?: Past }} Act
  * @typedef {{ parts: string[], theirs: Row, mine: Row }} Told
+ * @typedef {{ mapping: string, row: Row }} Past what a row was, as a row of the history, and the mapping of that
  */
 
 /**
@@ -31,18 +34,19 @@ export const photosIn = act => (act?.records ?? []).filter(([word]) => word === 
 
 /**
  * The acts that save a form: the first photo with the row, and each other one by itself, since a list has 16 MiB.
- * @param {{ table: string, row: Row, saw: Row | null, isSame: boolean, photos: { id: number }[],
+ * @param {{ table: string, row: Row, saw: Row | null, isSame: boolean, photos: { id: number, type?: string }[],
  *   relation?: { related: string, mapping: string }, number?: number }} form
  * @returns {Act[]}
  */
 export function actsOfForm({ table, row, saw, isSame, photos, relation, number }) {
-  /** @type {(it: { id: number }) => Fields[]} */
-  const photo = ({ id }) => relation
-    ? [["media", relation.related, id, "image/jpeg"], ["map", relation.mapping, row.id, id]] : [];
+  /** @type {(it: { id: number, type?: string }) => Fields[]} */
+  const photo = ({ id, type = "image/jpeg" }) => relation
+    ? [["media", relation.related, id, type], ["map", relation.mapping, row.id, id]] : [];
   const [one, ...rest] = photos, base = { table, of: row.id }, name = nameOf(row);
   const records = [...isSame ? [] : [rowRecord(table, row)], ...one ? photo(one) : []];
-  const first = { ...base, ...isSame ? {} : { row, saw }, what: name + (one ? ", with a photo" : ""), records };
-  const made = [first, ...rest.map(it => ({ ...base, what: `${name}: one more photo`, records: photo(it) }))];
+  const what = name + (one ? `, with a ${nounOf(one.type)}` : "");
+  const more = rest.map(it => ({ ...base, what: `${name}: one more ${nounOf(it.type)}`, records: photo(it) }));
+  const made = [{ ...base, ...isSame ? {} : { row, saw }, what, records }, ...more];
   if (number !== undefined) Object.assign(made[0], { number });
   return made.filter(it => it.records.length > 0);
 }
@@ -57,16 +61,19 @@ export const removalOf = (table, row) =>
   ({ table, of: row.id, dropped: row.id, saw: row, what: `remove ${nameOf(row)}`, records: [] });
 
 /**
- * A removal with its records: what leads from the row goes before it, and photos in a list behind it.
+ * A removal with its records: what leads from the row goes before it, and in a list behind it what tells of the row,
+ * and photos.
  * @param {Act} act
  * @param {{ id: number, table: string, mapping: string, name: string }[]} related
+ * @param {Fields[]} [told] the records that tell what the row was
  * @returns {Act}
  */
-export function withRecords(act, related) {
+export function withRecords(act, related, told = []) {
   const taken = related.map(it => ["map-drop", it.mapping, act.dropped ?? 0, it.id]);
   const photos = related.filter(it => it.name === "media").map(it => ["media-drop", it.table, it.id]);
   const records = [...taken, ["row-drop", act.table, act.dropped ?? 0]];
-  return { ...act, records, then: [...act.then ?? [], ...photos] };
+  const before = (act.then ?? []).filter(([word]) => word !== "row");  // it was refused before, and nothing was told
+  return { ...act, records, then: [...before, ...told, ...photos] };
 }
 
 /**

@@ -41,18 +41,19 @@ function rowsToReport() {
 
 /** A place in words. */
 function wordsOfPlace({ place, degrees }) {
-  if (!place) return "no place";
-  const metres = `east ${place.east}, north ${place.north} of system ${place.system}`;
-  const half = (it, more, less) => `${Math.abs(it).toFixed(6)}° ${it < 0 ? less : more}`;
+  if (!place) return phrase("no place");
+  const { system, east, north } = place, metres = phrase("east {0}, north {1} of system {2}", east, north, system);
+  const half = (it, more, less) => `${Math.abs(it).toFixed(6)}° ${phrase(it < 0 ? less : more)}`;
   return degrees ? `${metres} · ${half(degrees.latitude, "N", "S")}, ${half(degrees.longitude, "E", "W")}` : metres;
 }
 
 /** A row in the report, and room for its photos. */
 function reportedItem(told) {
   const { row, state, rest, words } = told, values = [...words].map(it => it.join(": ")).join(" · ");
-  const lines = [wordsOfPlace(told), rest, values, row.amount ? `amount ${row.amount}` : ""].filter(it => it);
-  const marked = Object.assign(element("p", state), { className: "waits", hidden: !row.waits });
-  return element("li", element("h2", row.title || `(no title) ${row.id}`), marked, ...lines.map(it => element("p", it)),
+  const lines = [wordsOfPlace(told), rest, values, row.amount ? phrase("amount {0}", row.amount) : ""].filter(it => it);
+  const marked = Object.assign(element("p", phrase(state)), { className: "waits", hidden: !row.waits });
+  const title = row.title || phrase("(no title) {0}", row.id);
+  return element("li", element("h2", title), marked, ...lines.map(it => element("p", it)),
     Object.assign(element("div", ""), { className: "pictures" }));
 }
 
@@ -63,14 +64,15 @@ async function photosToReport(row) {
   const there = (related ?? []).filter(it => it.name === "media").map(it =>
     ({ words: `${it.table} ${it.id}`, load: () => ask(`${ROOT}media/${it.table}/${it.id}`, "blob") }));
   const waiting = outbox.waiting.filter(it => it.table === table && it.of === row.id).flatMap(photosIn).map(id =>
-    ({ words: "not in the package yet", load: async () => new Blob([await photoOf(id) ?? ""]) }));
+    ({ words: phrase("not in the package yet"), load: async () => bodyOfBytes(await photoOf(id)) }));
   return { photos: [...there, ...waiting], isTold: related !== null };
 }
 
 /** A photo as the report shows it, small; words of what is no picture. */
 async function pictureToReport({ words, load }) {
   const body = await smallPicture(await load()), image = new Image();
-  if (!body?.size) return element("span", `${words}: isn't to be had`);
+  if (!body?.size) return element("span", phrase("{0}: isn't to be had", words));
+  if (isPaper(body.type)) return element("span", `${words}: ${wordsOfFile(body)}`);
   const src = URL.createObjectURL(body);
   addresses.push(src);
   Object.assign(image, { src, alt: words });
@@ -89,10 +91,10 @@ async function showPictures(list, items, turn) {
       count += 1;
     }
     if (turn !== reporting) return;
-    byId("made").textContent = `Photos come: ${at + 1} of ${list.length} rows have theirs.`;
+    byId("made").textContent = phrase("Photos come: {0} of {1} rows have theirs.", at + 1, list.length);
   }
-  byId("made").textContent = `${count} ${count === 1 ? "photo" : "photos"}.`
-    + (isWhole ? "" : " The package doesn't answer: those that it has aren't all here.");
+  byId("made").textContent = [plural(count, "{0} photo.", "{0} photos."),
+    isWhole ? "" : phrase("The package doesn't answer: those that it has aren't all here.")].filter(it => it).join(" ");
 }
 
 /** Shows the rows that are chosen, as they stand now. */
@@ -103,12 +105,12 @@ function showReport() {
   forgetPictures();
   const items = told.map(reportedItem), day = dayTold(new Date());
   byId("day").textContent = document.title = `${identifier}, ${day}`;
-  byId("about").textContent = [packageFile, `${list.length} ${list.length === 1 ? "row" : "rows"}`,
-    isDay ? "made or changed today" : "all that are listed", search ? `searched for: ${search}` : "",
-    part.length < list.length ? `the first ${part.length} are here` : "",
-    waiting ? `not in the package yet: ${waiting}` : ""].filter(it => it).join(" · ");
+  byId("about").textContent = [packageFile, plural(list.length, "{0} row", "{0} rows"),
+    phrase(isDay ? "made or changed today" : "all that are listed"), search ? phrase("searched for: {0}", search) : "",
+    part.length < list.length ? phrase("the first {0} are here", part.length) : "",
+    waiting ? phrase("not in the package yet: {0}", waiting) : ""].filter(it => it).join(" · ");
   byId("reported").replaceChildren(...items);
-  byId("made").textContent = "Photos come ..";
+  byId("made").textContent = phrase("Photos come ..");
   complete = showPictures(part, items, turn);
 }
 

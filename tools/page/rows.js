@@ -9,25 +9,27 @@ const ORDERS = {
   oldest: [it => it.id, (one, other) => one - other],
   title: [it => it.title, WORDS.compare],
   amount: [it => -it.amount, (one, other) => one - other],
-  near: [it => far(it), (one, other) => one - other],
+  near: [it => farFromNear(placeIn(it.note)), (one, other) => one - other],
 };
 // By what a row waits for, the words of it.
-const WAITS = { waits: "waits", refused: "refused", changed: "changed meanwhile" };
+const WAITS = toSay({ waits: "waits", refused: "refused", changed: "changed meanwhile" });
 
 // What the package has told, which this file alone writes: its tables and maps (contents); of item 4 relations
-// (mapping, base, related, name), by number the parameters of systems that the page can reckon (systems), and the
-// numbers of systems at EPSG (epsg); the system of all maps, null where they have several: a place that names none is
-// of it (only); the table whose rows are shown
-// (showing), these by id (stood), the table's last change as it was told before they were asked for (asOf), and those
-// that are searched for, in their order (found).
+// (mapping, base, related, name), by number the parameters of systems that the page can reckon (systems), the numbers
+// of systems at EPSG (epsg), and how PROJ is asked for others (beyond); the system of all maps, null where they have
+// several: a place that names none is of it (only); the table whose rows are shown (showing), these by id (stood), the
+// table's last change as it was told before they were asked for (asOf), and those that are searched for, in their order
+// (found).
 const rows = {
-  contents: [], relations: [], systems: {}, epsg: {}, only: null, showing: "", stood: new Map(), asOf: "", found: [],
+  contents: [], relations: [], systems: {}, epsg: {}, beyond: {}, only: null, showing: "", stood: new Map(), asOf: "",
+  found: [],
 };
 let turn = 0;             // how often rows were asked for: only the last answer is shown
 let meanwhile = [];       // the acts that were done since then, which that answer may not tell
 let most = SHOWN_ROWS;    // how many rows the list has
 let thinning = 0;         // what draws the marks of what is searched, once no letter comes any more
 const texts = new WeakMap();  // what is searched, by row
+const places = new WeakMap();  // the place of a row's note, null where it tells none
 
 /** Takes over which tables and maps the package has. */
 function takeContents(contents) {
@@ -38,25 +40,30 @@ function takeContents(contents) {
 function takeKnown(known) {
   const maps = new Set(rows.contents.filter(it => it.extent).map(it => it.srs_id));
   const only = maps.size === 1 ? [...maps][0] : null;
-  const { relations = [], systems = {}, epsg = {} } = known ?? {};
-  Object.assign(rows, { relations, systems, epsg, only });
+  const { relations = [], systems = {}, epsg = {}, beyond = {} } = known ?? {};
+  Object.assign(rows, { relations, systems, epsg, beyond, only });
 }
 
 /** Takes over the system of a map that lies behind a package without one, and how it is reckoned, if it is. */
 function takeSystem(number, parameters) {
   rows.epsg[number] = number;
-  if (parameters) rows.systems[number] = parameters;
+  if (parameters) rows.systems[number] = parameters; else rows.beyond[number] = { epsg: number };
 }
 
-const tables = () => rows.contents.filter(it => it.kind === "attributes");
+/** The tables that a crew works on. */
+const tables = () => rows.contents.filter(it => it.kind === "attributes" && !isPastTable(rows.relations, it.table));
 
-/** A number that no other crew makes. */
-const freshId = () => numberAt(Date.now(), crypto.getRandomValues(new Uint32Array(2)));
+/** What relates rows of a table to what they were, as long as the package has that; null where it keeps none. */
+const historyOf = table => rows.contents.some(it => it.table === HISTORY) ? pastOfTable(rows.relations, table) : null;
 
-/** The rows of the table that is shown, with what waits over them. */
-function rowsNow() {
-  const all = new Map(rows.stood);
-  for (const act of outbox.waiting.filter(it => it.table === rows.showing)) {
+/** A number that no other crew makes; of a file of a row by its type. */
+const freshId = (type = null) => (isShape(type) ? shapeNumberAt : numberAt)(Date.now(),
+  crypto.getRandomValues(new Uint32Array(2)));
+
+/** The rows of a table as they stood, or of the table that is shown, with what waits over them. */
+function rowsNow(table = rows.showing, stood = rows.stood) {
+  const all = new Map(stood);
+  for (const act of outbox.waiting.filter(it => it.table === table)) {
     const waits = act.refused ? "refused" : act.apart ? "changed" : "waits";
     if (act.row) all.set(act.row.id, { ...act.row, waits });
     else if (act.dropped && waits === "waits") all.delete(act.dropped);
@@ -70,6 +77,8 @@ function stands(act) {
   noteChange(act);
   meanwhile.push(act);
   if (act.table === rows.showing) takeOver(rows.stood, act);
+  standsAlongside(act);
+  standsAsShape(act);
   if (form && act.of === form.row.id) showPhotos();
 }
 
@@ -97,17 +106,27 @@ async function readRows() {
     first = more ? told.at(-1).id + 1 : first;
   }
   for (const act of meanwhile.filter(it => it.table === table)) takeOver(all, act);
-  if (table !== rows.showing) most = SHOWN_ROWS;
+  if (table !== rows.showing) leaveTable();
   Object.assign(rows, { stood: all, showing: table, asOf: since });
   showFound();
   tellOther();
+  readAlongside();
 }
 
-/** How far a row's place is from the map's middle, in metres. */
-function far({ note }) {
-  const place = placeIn(note), middle = map?.getCenter();
-  if (!place || !middle || place.system !== shown.srs_id) return Infinity;
-  return Math.hypot(place.east - middle.lng, place.north - middle.lat);
+/** The table that is shown so far lies beside another from now on. */
+function leaveTable() {
+  most = SHOWN_ROWS;
+  layAlongside(rows.showing, rows.stood, rows.asOf);
+}
+
+/** Shows another table, with the rows that the map has of it, if any, until they are read anew. */
+function workOn(table, there) {
+  if (there && table !== rows.showing) {
+    leaveTable();
+    Object.assign(rows, { ...there, showing: table });
+    showFound();
+  }
+  readRows();
 }
 
 /** A button that opens the form of the row that it shows. */
@@ -119,9 +138,10 @@ function rowItem() {
 
 /** Shows a row in its item, which stays the same while the row changes: else a tap under way would be lost. */
 function fillItem(item, row) {
-  const place = placeIn(row.note), way = byId("order").value === "near" ? wayFromMiddle(place) : "";
-  const words = [way, place ? place.rest : row.note, row.amount || "", row.waits ? `(${WAITS[row.waits]})` : ""];
-  const [title, more] = [row.title || `(no title) ${row.id}`, words.filter(it => it !== "").join(" · ")];
+  const place = placeIn(row.note), way = byId("order").value === "near" ? wayFromNear(place) : "";
+  const words = [way, unsigned(place ? place.rest : row.note), row.amount || "", wordsOfWho(row.note),
+    row.waits ? `(${phrase(WAITS[row.waits])})` : ""];
+  const [title, more] = [row.title || phrase("(no title) {0}", row.id), words.filter(it => it !== "").join(" · ")];
   item.row = row;
   if (item.told === title + more) return item;
   item.told = title + more;
@@ -146,17 +166,28 @@ function textOf(row) {
   return texts.get(row);
 }
 
+/** The place that a row's note tells; read once for each, since a map of thousands is drawn at each move. */
+function placeOfRow(row) {
+  if (!places.has(row)) places.set(row, placeIn(row.note));
+  return places.get(row);
+}
+
+/** The words that are searched for. */
+const wordsSearched = () => folded(byId("search").value.trim()).split(/\s+/);
+
+const hasAll = (row, words) => words.every(it => it === "" || textOf(row).includes(it));
+
 /** The rows that have all words that are searched for, in the order that is chosen. */
 function foundOf(all) {
-  const words = folded(byId("search").value.trim()).split(/\s+/), [key, compare] = ORDERS[byId("order").value];
-  const has = row => words.every(it => it === "" || textOf(row).includes(it));
-  const keyed = all.filter(it => has(it)).map(it => [key(it), it]);
+  const words = wordsSearched(), [key, compare] = ORDERS[byId("order").value];
+  const keyed = all.filter(it => isOfWhom(it) && hasAll(it, words)).map(it => [key(it), it]);
   return keyed.sort(([one, first], [other, second]) => compare(one, other) || first.id - second.id).map(([, it]) => it);
 }
 
 /** Shows the rows that are searched for in the list and on the map. */
 function showFound() {
   clearTimeout(thinning);
+  tellCrews(rowsNow());
   showRows();
   showMarks();
   tellSlips();
@@ -177,16 +208,25 @@ function search() {
   thinning = setTimeout(showMarks, THIN);
 }
 
+/** How many rows are found of how many, and how many of them the list has. */
+function wordsOfCount(found, all, listed) {
+  if (listed < found) {
+    return found === all ? phrase("{0} rows, {1} are shown", all, listed)
+      : phrase("{0} of {1} rows, {2} are shown", found, all, listed);
+  }
+  return found === all ? plural(all, "{0} row", "{0} rows")
+    : plural(all, "{0} of {1} row", "{0} of {1} rows", found, all);
+}
+
 /** Shows the rows that are searched for in the list. */
 function showRows() {
   const all = rowsNow(), found = foundOf(all), part = found.slice(0, most), list = byId("rows");
   rows.found = found;
   const there = new Map([...list.children].map(it => [it.row.id, it]));
   arrange(list, part.map(row => fillItem(there.get(row.id) ?? rowItem(), row)));
-  const count = found.length === all.length ? all.length : `${found.length} of ${all.length}`;
-  const rest = part.length < found.length ? `, ${part.length} are shown` : "";
-  byId("count").textContent = `${count} ${all.length === 1 ? "row" : "rows"}${rest}`;
+  byId("count").textContent = wordsOfCount(found.length, all.length, part.length);
   byId("more").hidden = part.length === found.length;
+  tellNearest();
 }
 
 /** Has the list have more rows. The focus stays beside it where the button goes. */

@@ -2,7 +2,7 @@
 
 const MOST_BODY = 16777216, PATIENCE = 120000;
 const LATER = 30000;  // milliseconds until what failed again is sent once more
-const NO_ANSWER = "the package doesn't answer";
+const NO_ANSWER = phrase("the package doesn't answer");
 
 let sending = false, more = false, later = 0;
 const failures = new Map();  // by its number of saving, how often an act failed while the package answered, and why
@@ -33,7 +33,7 @@ async function ran(records) {
 /** Tells how many records of a list of some stand. */
 function tellProgress(text, count) {
   const lines = linesOf(text, count);
-  if (count > 1 && lines) tellState(`${lines.length} of ${count} stand`, "waits");
+  if (count > 1 && lines) tellState(phrase("{0} of {1} stand", lines.length, count), "waits");
 }
 
 // What an act's way asks (steps.mjs), and the event that comes of it.
@@ -41,7 +41,7 @@ const QUESTIONS = {
   async row({ act }) {
     const id = rowIn(act), { is, body } = await asked(`${ROOT}rows/${act.table}/${id}`, "json", it => isRows(it, id));
     const row = body?.find(it => it.id === id), who = body && !row && act.saw ? await whose() : is;
-    return { is: "row", row: who === "there" ? row ?? null : undefined, ...isNone(who) };
+    return { is: "row", row: who === "there" ? row ?? null : undefined, fresh: freshId(), ...isNone(who) };
   },
   async related({ act }) {
     const { is, body = null } = await asked(`${ROOT}related/${act.table}/${rowIn(act)}`, "json", isRelated);
@@ -71,11 +71,11 @@ const whose = async () => (await asked(`${ROOT}contents`, "json", isContents)).i
 
 /** The event where no package answers a question. */
 const isNone = is => is === "gone" ? { is: "none", why: NO_ANSWER, isSilent: true }
-  : is === "strange" ? { is: "none", why: STRANGER, isSilent: false } : {};
+  : is === "strange" ? { is: "none", why: phrase(STRANGER), isSilent: false } : {};
 
 /** Sends one act, and keeps what becomes of it. */
 async function sendOne(act) {
-  for (let way = wayOf(act, rows.only); way.asks;) {
+  for (let way = wayOf(act, rows.only, historyOf(act.table)); way.asks;) {
     way = step(way, await QUESTIONS[way.asks](way));
     for (const it of way.effects) await EFFECTS[it.does](it);
   }
@@ -140,7 +140,8 @@ async function send() {
 function tellFailed(error) {
   if (!error) return say("sending", null);
   if (!error.isPassed) tellState(error.message, "gone");
-  say("sending", error.isSilent ? null : `What waits isn't ${error.isPassed ? "all " : ""}sent: ${error.message}.`);
+  say("sending", error.isSilent ? null
+    : phrase(error.isPassed ? "What waits isn't all sent: {0}." : "What waits isn't sent: {0}.", error.message));
   if (error.isSilent) noAnswer();
   later = setTimeout(send, error.isPassed ? LATER : AGAIN);
 }

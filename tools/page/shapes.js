@@ -56,7 +56,8 @@ function drawShapes(it, features, hasMore) {
     pointToLayer: (_, place) => L.circleMarker(place, { ...how, radius: 4, fill: true, fillOpacity: 1 }) });
   layer.clearLayers();
   layer.addLayer(shapes);
-  layer.count = hasMore ? `more than the ${features.length.toLocaleString("en")} that are drawn: go nearer` : "";
+  const count = numeral(features.length.toLocaleString("en"));
+  layer.count = hasMore ? phrase("more than the {0} that are drawn: go nearer", count) : "";
   layer.shapes = shapes;
   nameShapes(it);
   tellBehind();

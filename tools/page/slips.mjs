@@ -1,6 +1,7 @@
 // Slips of a package that nothing else tells: words that mean a place and are none, places on no map, maps too small.
 
 import { isMeant, placeOfNote } from "./notes.mjs";
+import { numeral, phrase, plural } from "./tongue.mjs";
 import { MICROMETRES, isOnMap } from "./typed.mjs";
 
 /**
@@ -27,14 +28,6 @@ export function slipOf(note, maps, only) {
 export const isTiny = ({ extent: [left, low, right, high] }) => Math.min(right - left, high - low) < MICROMETRES;
 
 /**
- * A number of things in words.
- * @param {number} count
- * @param {string} one
- * @param {string} many
- */
-const numbered = (count, one, many) => count === 0 ? "" : `${count.toLocaleString("en")} ${count === 1 ? one : many}`;
-
-/**
  * The slips of rows and maps in words, with how many there are of each; empty where there is none.
  * @param {{ note: string }[]} rows
  * @param {(Map & { identifier: string })[]} maps
@@ -43,10 +36,14 @@ const numbered = (count, one, many) => count === 0 ? "" : `${count.toLocaleStrin
 export function wordsOfSlips(rows, maps, only) {
   const slips = rows.map(it => slipOf(it.note, maps, only));
   const count = (/** @type {string} */ of) => slips.filter(it => it === of).length;
+  const none = count("none"), outside = count("outside");
   const tiny = maps.filter(isTiny).map(it => it.identifier).join(", ");
+  const told = [none, outside].map(it => numeral(it.toLocaleString("en")));
   return [
-    numbered(count("none"), "row has a word with @ that is no place", "rows have a word with @ that is no place"),
-    numbered(count("outside"), "row has its place outside all maps", "rows have their place outside all maps"),
-    tiny ? `less than a metre wide or high: ${tiny}` : "",
+    none && plural(none, "{0} row has a word with @ that is no place", "{0} rows have a word with @ that is no place",
+      told[0]),
+    outside && plural(outside, "{0} row has its place outside all maps", "{0} rows have their place outside all maps",
+      told[1]),
+    tiny && phrase("less than a metre wide or high: {0}", tiny),
   ].filter(it => it).join("; ");
 }

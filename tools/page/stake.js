@@ -20,7 +20,7 @@ const isReached = (place, at) => Math.hypot(place.east - at.east, place.north - 
 function showOffset(place, at) {
   const reached = Boolean(place && at) && isReached(place, at);
   const words = place && at ? wordsOfOffset(place.east - at.east, place.north - at.north, heightTo(at)) : "";
-  byId("offset").textContent = (reached ? "Here: " : "") + words;
+  byId("offset").textContent = reached ? phrase("Here: {0}", words) : words;
   byId("offset").classList.toggle("led", isLeading());
   byId("offset").classList.toggle("reached", reached);
   byId("quiet").hidden = !isLeading();

@@ -1,7 +1,7 @@
 // How the page begins, and what its buttons do.
 
 const packageFile = fileName();
-const NO_MAP = "The package has no map yet.";
+const NO_MAP = phrase("The package has no map yet.");
 
 const option = ({ table, identifier }) => new Option(identifier === table ? table : `${identifier} (${table})`, table);
 
@@ -16,8 +16,8 @@ function fileName() {
   }
 }
 
-const noZoom = names => `No zoom is laid out yet for ${names}: there is nothing to see of it until the office lays one `
-  + "out and puts in tiles. Open the package again then.";
+const noZoom = names => phrase("No zoom is laid out yet for {0}: there is nothing to see of it until the office lays " +
+  "one out and puts in tiles. Open the package again then.", names);
 
 /** The maps of the package by table; those that can't be shown are said. */
 function pyramidsOf(known) {
@@ -27,7 +27,8 @@ function pyramidsOf(known) {
   const isEmpty = (was, it) => was?.matrices.length === 0 && was.last_change === it.last_change;
   const none = unseen.filter(it => isEmpty(known?.pyramids[it.table], it));
   const strange = unseen.filter(it => !none.includes(it)), names = list => list.map(it => it.identifier).join(", ");
-  const anew = `This viewer was made before the zooms of ${names(strange)}: make the viewer anew to see them.`;
+  const anew = phrase("This viewer was made before the zooms of {0}: make the viewer anew to see them.",
+    names(strange));
   if (known && strange.length) say("anew", anew);
   if (none.length) say("empty", noZoom(names(none)));
   if (tiled.length === 0) say("start", NO_MAP);
@@ -39,22 +40,25 @@ function pyramidsOf(known) {
 }
 
 async function start() {
-  if (window.top !== window) return say("start", "This page doesn't work within a page of another address.");
-  const noLeaflet = "Leaflet's script, item 2 beside this page, isn't to be had. Take the viewer in anew.";
+  if (window.top !== window) return say("start", phrase("This page doesn't work within a page of another address."));
+  const noLeaflet = phrase("Leaflet's script, item 2 beside this page, isn't to be had. Take the viewer in anew.");
   if (!window.L) return say("start", noLeaflet);
   takeContents(await ask(`${ROOT}contents`, "json", isContents) ?? []);
   const known = await ask("4", "json");
   if (saidOf("gone")) return whenBack("page", () => location.reload());
-  if (!known) say("start", "The matrices, item 4 beside this page, aren't to be had. Take the viewer in anew.");
+  if (!known) {
+    say("start", phrase("The matrices, item 4 beside this page, aren't to be had. Take the viewer in anew."));
+  }
   const pyramids = pyramidsOf(known);
   takeKnown(known);
-  byId("package").textContent = packageFile || "Map package";
+  byId("package").textContent = packageFile || phrase("Map package");
   tellOlder(known);
   if (!byId("pyramids").value) await addMapOfMaps(pyramids);
   byId("pyramids").addEventListener("change", event => show(pyramids.get(event.target.value)));
   if (byId("pyramids").options.length) startMap(pyramids.get(byId("pyramids").value));
   if (WORKS && known) {
-    for (const it of [listenToStake, listenToOut, listenToReport]) it();
+    for (const it of [listenToStake, listenToTold, listenToOut, listenToReport, listenToCamera, listenToSound,
+      listenToWho, listenToTrack, listenToPast]) it();
     await startWork(known);
   }
 }
@@ -77,8 +81,7 @@ function startMap(pyramid) {
   byId("fit").addEventListener("click", fit);
   byId("tiles").addEventListener("click", toTiles);
   byId("go").addEventListener("submit", event => { event.preventDefault(); goTo(byId("wanted").value); });
-  byId("locate").addEventListener("click", goToDevice);
-  listenToMeasure();
+  for (const it of [listenToMyPlace, listenToReceiver, listenToMeasure, listenToDraw]) it();
 }
 
 byId("form").addEventListener("submit", event => {
@@ -97,5 +100,6 @@ byId("anew").addEventListener("click", () => {
 new ResizeObserver(() => map?.invalidateSize()).observe(byId("map"));
 // Another day's maps are at another address, which the policy of this page doesn't know.
 addEventListener("hashchange", () => location.reload());
-addEventListener("unhandledrejection", ({ reason }) => say("failed", `This page failed: ${reason?.message ?? reason}`));
-start().catch(error => say("start", `This page failed: ${error.message}`));
+const failed = why => phrase("This page failed: {0}", why);
+addEventListener("unhandledrejection", ({ reason }) => say("failed", failed(reason?.message ?? reason)));
+start().catch(error => say("start", failed(error.message)));

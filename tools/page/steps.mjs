@@ -3,6 +3,7 @@
 
 import { judged } from "./answers.mjs";
 import { isSameRow, joined, settled } from "./changes.mjs";
+import { pastAgain, pastOf, recordsOfPast, recordsOfRemoved } from "./past.mjs";
 import { putBack, rowRecord, takenOff, withRecords } from "./records.mjs";
 
 /**
@@ -10,10 +11,12 @@ import { putBack, rowRecord, takenOff, withRecords } from "./records.mjs";
  * @typedef {import("./changes.mjs").Row} Row
  * @typedef {{ does: "keep", act: Act, next: Act[] } | { does: "stands", act: Act } | { does: "reread" }
  *   | { does: "fails", why: string, isSilent: boolean }} Effect
+ * @typedef {import("./records.mjs").Past} Past
  * @typedef {{ act: Act, asks: "row" | "related" | "run" | null, effects: Effect[], only: number | null,
- *   sent: Act }} Way
- * @typedef {{ is: "none", why: string, isSilent: boolean } | { is: "row", row: Row | null | undefined }
- *   | { is: "related", related: any[] | null } | { is: "answer", answer: import("./answers.mjs").Answer }} Event
+ *   mapping: string | null, past: Past | null, sent: Act }} Way
+ * @typedef {{ is: "row", row: Row | null | undefined, fresh?: number }} Stood
+ * @typedef {{ is: "none", why: string, isSilent: boolean } | Stood | { is: "related", related: any[] | null }
+ *   | { is: "answer", answer: import("./answers.mjs").Answer }} Event
  */
 
 /**
@@ -61,9 +64,11 @@ export function nextOf(acts, key, passed = new Set()) {
  * Where an act begins its way: one that changes a row asks first how that stands.
  * @param {Act} act as the outbox has it
  * @param {number | null} only the system of all maps
+ * @param {string | null} [mapping] what relates the row to what it was before, where that is kept
  * @returns {Way}
  */
-export const wayOf = (act, only) => ({ act, only, sent: act, effects: [], asks: changesRow(act) ? "row" : "run" });
+export const wayOf = (act, only, mapping = null) =>
+  ({ act, only, mapping, past: null, sent: act, effects: [], asks: changesRow(act) ? "row" : "run" });
 
 /**
  * The next step of an act's way; where it asks nothing the way is over.
@@ -73,7 +78,7 @@ export const wayOf = (act, only) => ({ act, only, sent: act, effects: [], asks: 
  */
 export function step(way, event) {
   switch (event.is) {
-    case "row": return behindRow(way, event.row);
+    case "row": return behindRow(way, event);
     case "related": return behindRelated(way, event.related);
     case "answer": return behindAnswer(way, event.answer);
     default: return over(way, { does: "fails", why: event.why, isSilent: event.isSilent });
@@ -87,30 +92,64 @@ const over = (way, ...effects) => ({ ...way, asks: null, effects });
 const goesOn = (way, asks, sent = way.sent, ...effects) => ({ ...way, asks, sent, effects });
 
 /**
- * Behind the row as the package has it: null where there is none, undefined where there is no such table.
+ * Behind the row as the package has it: null where there is none, undefined where there is no such table; with a number
+ * for a row of the history.
  * @param {Way} way
- * @param {Row | null | undefined} theirs
+ * @param {Stood} stood
  * @returns {Way}
  */
-function behindRow(way, theirs) {
+function behindRow(way, { row: theirs, fresh = 0 }) {
   const { act } = way;
-  if (!act.row) return behindRemoved(way, theirs);
+  if (!act.row) return behindRemoved(way, theirs, fresh);
   if (theirs === undefined) return goesOn(way, "run");
   const verdict = joined(act.saw, act.row, theirs, way.only);
   if (verdict.is === "apart") return setApart(way, theirs, verdict.parts);
   const isTold = verdict.is === "joined" && verdict.parts.length > 0;
   const told = isTold && theirs ? { parts: verdict.parts, theirs, mine: act.row } : undefined;
-  return goesOn(way, "run", verdict.is === "joined" ? { ...withRow(act, verdict.row), told } : act);
+  const sent = verdict.is === "joined" ? { ...withRow(act, verdict.row), told } : act;
+  return withPast(way, sent, pastBehind(way, verdict.row, theirs, fresh));
+}
+
+/**
+ * What an act has to write of the row in whose place its own comes; null where that is kept nowhere, or none is. Where
+ * the package has the act's own row already it is what was kept before that was sent.
+ * @param {Way} way
+ * @param {Row} row
+ * @param {Row | null} theirs
+ * @param {number} fresh
+ */
+function pastBehind({ act, mapping }, row, theirs, fresh) {
+  if (!mapping || !theirs) return null;
+  return isSameRow(row, theirs) ? act.past ?? null : pastAgain(act.past, pastOf(act.table, theirs, mapping, fresh));
+}
+
+/**
+ * An act that is sent, with what its row was in front. That is kept before it is sent, so that a second sending has the
+ * same records.
+ * @param {Way} way
+ * @param {Act} sent
+ * @param {Past | null} past
+ * @returns {Way}
+ */
+function withPast(way, sent, past) {
+  if (!past) return goesOn(way, "run", sent);
+  const { act } = way, full = { ...sent, records: [...recordsOfPast(past, rowIn(act)), ...sent.records] };
+  if (past === act.past) return goesOn(way, "run", full);
+  const kept = { ...act, past };
+  return { ...goesOn(way, "run", full, { does: "keep", act, next: [kept] }), act: kept };
 }
 
 /**
  * @param {Way} way
  * @param {Row | null | undefined} theirs
+ * @param {number} fresh
  * @returns {Way}
  */
-function behindRemoved(way, theirs) {
-  if (theirs && !isSameRow(theirs, way.act.saw)) return setApart(way, theirs, []);
-  return goesOn(way, way.act.records.length ? "run" : "related");
+function behindRemoved(way, theirs, fresh) {
+  const { act, mapping } = way;
+  if (theirs && !isSameRow(theirs, act.saw)) return setApart(way, theirs, []);
+  if (act.records.length) return goesOn(way, "run");
+  return { ...goesOn(way, "related"), past: mapping && theirs ? pastOf(act.table, theirs, mapping, fresh) : null };
 }
 
 /**
@@ -134,7 +173,7 @@ function setApart(way, theirs, parts) {
  * @returns {Way}
  */
 function behindRelated(way, related) {
-  const full = withRecords(way.act, related ?? []);
+  const full = withRecords(way.act, related ?? [], way.past ? recordsOfRemoved(way.past) : []);
   if (!related) return goesOn(way, "run", full);
   return { ...goesOn(way, "run", full, { does: "keep", act: way.act, next: [full] }), act: full };
 }
@@ -200,5 +239,6 @@ export function withTheirs(act, only) {
   if (!act.row || !theirs) return [];
   const row = settled(act.saw, act.row, theirs, only, false), rest = act.records.filter(([word]) => word !== "row");
   if (!isSameRow(row, theirs)) return [withRow({ ...act, saw: theirs, apart: undefined }, row)];
-  return rest.length ? [{ ...act, row: undefined, saw: undefined, apart: undefined, records: rest }] : [];
+  const left = { ...act, row: undefined, saw: undefined, apart: undefined, past: undefined, records: rest };
+  return rest.length ? [left] : [];
 }

@@ -1,8 +1,10 @@
 // Where degrees are in a package's system, and ways in words.
 
+import { numeral, phrase, toSay } from "./tongue.mjs";
+
 // How many degrees from its meridian a system is reckoned to less than a millimetre.
 const MOST_DEGREES = 10;
-const COMPASS = ["N", "NE", "E", "SE", "S", "SW", "W", "NW"];
+const COMPASS = toSay(["N", "NE", "E", "SE", "S", "SW", "W", "NW"]);
 
 /**
  * The parameters of a transverse Mercator.
@@ -60,12 +62,21 @@ export function placeInSystem(system, { longitude, latitude }) {
 }
 
 /**
+ * A direction in words, as whole degrees from north to the east and a point of the compass.
+ * @param {number} direction
+ */
+export function compassOf(direction) {
+  const degrees = Math.round(direction + 360) % 360;
+  return `${degrees}° (${phrase(COMPASS[Math.round(degrees / 45) % 8])})`;
+}
+
+/**
  * A way in words: its length, and its direction by the map's north.
  * @param {number} east
  * @param {number} north
  */
 export function wordsOfWay(east, north) {
-  const metres = Math.hypot(east, north), degrees = Math.round(Math.atan2(east, north) * 180 / Math.PI + 360) % 360;
+  const metres = Math.hypot(east, north), degrees = Math.atan2(east, north) * 180 / Math.PI;
   const length = metres < 10 ? metres.toFixed(1) : Math.round(metres).toLocaleString("en");
-  return `${length} m, ${degrees}° (${COMPASS[Math.round(degrees / 45) % 8]})`;
+  return `${numeral(length)} m, ${compassOf(degrees)}`;
 }

@@ -1,6 +1,7 @@
 // What people type: words that are searched for, and places.
 
 import { placeOfNote } from "./notes.mjs";
+import { phrase } from "./tongue.mjs";
 
 /**
  * @typedef {import("./notes.mjs").Place} Place
@@ -49,7 +50,7 @@ export const isOnMap = ({ system, east, north }, maps) => maps.some(({ srs_id, e
  */
 export function doubtOf(place, note, maps, only) {
   const of = maps.filter(it => it.srs_id === place?.system);
-  if (place && of.length > 0 && !isOnMap(place, of)) return "This place is outside all maps";
+  if (place && of.length > 0 && !isOnMap(place, of)) return phrase("This place is outside all maps");
   const word = place ? null : placeOfNote(note, only);
-  return word ? `The note tells a place: east ${word.east}, north ${word.north}` : "";
+  return word ? phrase("The note tells a place: east {0}, north {1}", word.east, word.north) : "";
 }

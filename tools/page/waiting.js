@@ -1,6 +1,6 @@
 // What isn't in the package yet, as a list with the buttons that go on with it, and as a state in a few words.
 
-const STANDS_ALL = "all is in the package";
+const STANDS_ALL = phrase("all is in the package");
 const ARMED = 10000;    // milliseconds for which a button that asks for two presses waits for the second
 const SHOWN_ACTS = 50;  // how many more the list has each time that more are asked for
 
@@ -16,10 +16,11 @@ function tellState(text, kind) {
 function showState() {
   const refused = outbox.waiting.filter(it => it.refused).length, apart = outbox.waiting.filter(it => it.apart).length;
   const open = outbox.waiting.length - refused - apart;
-  const counts = { "to send": open, "changed meanwhile": apart, refused, "not saved": leftHere().length };
-  const some = Object.entries(counts).filter(([, count]) => count);
-  const words = some.map(([word, count]) => `${count} ${word}`).join(", ");
-  const joined = outbox.joinings.length && !words ? `${STANDS_ALL}, ${outbox.joinings.length} joined` : "";
+  const counts = toSay([[open, "{0} to send"], [apart, "{0} changed meanwhile"], [refused, "{0} refused"],
+    [leftHere().length, "{0} not saved"]]);
+  const words = counts.filter(([count]) => count).map(([count, text]) => phrase(text, count)).join(", ");
+  const joinings = outbox.joinings.length;
+  const joined = joinings && !words ? phrase("all is in the package, {0} joined", joinings) : "";
   if (hasEnded()) tellEnd(words);
   else tellState(words || joined || STANDS_ALL, words || joined ? "waits" : "");
 }
@@ -39,20 +40,21 @@ function buttonIn(item, text, act) {
 function sidesOf({ row, dropped, apart }) {
   if (dropped || !apart.theirs) return [];
   const lines = bothSides(row, apart.theirs, apart.parts, rows.only).map(({ part, mine, theirs }) => {
-    const [here, there] = [mine, theirs].map(it => element("td", it || "(empty)"));
+    const [here, there] = [mine, theirs].map(it => element("td", it || phrase("(empty)")));
     return element("tr", element("th", part), here, there);
   });
-  return [element("table", element("tr", element("th", ""), element("th", "mine"), element("th", "theirs")), ...lines)];
+  const head = element("tr", element("th", ""), element("th", phrase("mine")), element("th", phrase("theirs")));
+  return [element("table", head, ...lines)];
 }
 
 /** The buttons that say what becomes of an act whose row another has changed meanwhile. */
 function buttonsApart(item, act) {
   const isGone = !act.apart.theirs, [rest] = withTheirs(act, rows.only);
-  const mine = act.dropped ? "Remove all the same" : isGone ? "Make it again" : "Take mine";
+  const mine = phrase(act.dropped ? "Remove all the same" : isGone ? "Make it again" : "Take mine");
   buttonIn(item, mine, () => goOnWith(act, withMine(act, rows.only)));
-  const theirs = buttonIn(item, act.dropped ? "Leave it" : isGone ? "Throw mine away" : "Take theirs");
+  const theirs = buttonIn(item, phrase(act.dropped ? "Leave it" : isGone ? "Throw mine away" : "Take theirs"));
   twice(theirs, () => rest ? goOnWith(act, rest) : become(act));
-  if (act.row) buttonIn(item, "Change", () => change(act));
+  if (act.row) buttonIn(item, phrase("Change"), () => change(act));
 }
 
 const isPassed = act => isOpen(act, KEY) && failuresOf(act).count > 1;
@@ -60,29 +62,31 @@ const isPassed = act => isOpen(act, KEY) && failuresOf(act).count > 1;
 /** What an act of the outbox waits for, in words. */
 function whyWaits(act) {
   const { count, why } = failuresOf(act);
-  if (isPassed(act)) return `failed ${count} times: ${why}; waits to be sent once more`;
+  if (isPassed(act)) return phrase("failed {0} times: {1}; waits to be sent once more", count, why);
   return wordsOf(act, outbox.waiting, KEY);
 }
 
 /** An act of the outbox, what it waits for, and the buttons that go on with it. */
 function waitingItem(act, words) {
-  const item = listItem(act.what, words, act.refused || act.apart ? "bad" : "");
+  const item = listItem(nameOfAct(act), words, act.refused || act.apart ? "bad" : "");
   if (act.apart) {
     item.append(...sidesOf(act));
     buttonsApart(item, act);
     return item;
   }
-  if (act.refused && act.row) buttonIn(item, "Change", () => change(act));
+  if (act.refused && act.row) buttonIn(item, phrase("Change"), () => change(act));
   const anew = { ...act, refused: undefined, records: act.dropped ? [] : act.records };
-  if (!isOpen(act, KEY)) buttonIn(item, act.refused ? "Send again" : "Send it here", () => goOnWith(act, anew));
-  if (!isOpen(act, KEY) || isPassed(act)) twice(buttonIn(item, "Throw away"), () => become(act));
+  if (!isOpen(act, KEY)) {
+    buttonIn(item, phrase(act.refused ? "Send again" : "Send it here"), () => goOnWith(act, anew));
+  }
+  if (!isOpen(act, KEY) || isPassed(act)) twice(buttonIn(item, phrase("Throw away")), () => become(act));
   return item;
 }
 
 /** What stands joined with what another changed, until somebody has seen that. */
 function joinedItem(act) {
-  const item = listItem(act.what, wordsOf(act, [], KEY));
-  buttonIn(item, "Seen", () => become(act));
+  const item = listItem(nameOfAct(act), wordsOf(act, [], KEY));
+  buttonIn(item, phrase("Seen"), () => become(act));
   return item;
 }
 
@@ -107,7 +111,7 @@ function showItems(wanted) {
   arrange(byId("outbox"), [...items.values()]);
   if (key && document.activeElement !== had) focusAgain(key, had);
   byId("behind").hidden = rest <= 0;
-  byId("behind").textContent = `Show more of what waits (${rest} behind these)`;
+  byId("behind").textContent = phrase("Show more of what waits ({0} behind these)", rest);
 }
 
 /** Gives the focus that an item had to the same button of what it says now, or else to the head of the list. */
@@ -130,11 +134,15 @@ function showMoreWaiting() {
  * long as the button has the focus, where a browser tells when it loses that.
  */
 function twice(button, act, asks = () => true) {
-  const text = button.textContent;
+  const text = button.textContent, name = button.ariaLabel;
   let armed = 0;
+  const says = words => {
+    button.textContent = words(text);
+    if (name) button.ariaLabel = words(name);
+  };
   const back = () => {
     clearTimeout(armed);
-    button.textContent = text;
+    says(it => it);
     delete button.dataset.asked;
   };
   button.addEventListener("blur", back);
@@ -142,6 +150,6 @@ function twice(button, act, asks = () => true) {
     if (button.dataset.asked || !asks()) return void (back(), act());
     armed = setTimeout(back, ARMED);
     button.dataset.asked = "yes";
-    button.textContent = `${text}: press again`;
+    says(it => phrase("{0}: press again", it));
   });
 }

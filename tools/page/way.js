@@ -2,8 +2,8 @@
 
 const ALOUD = 10000;  // milliseconds from one word for a screen reader to the next, as the device leads
 
-// While the device leads: its watch, the promise of a screen that stays on, where it is, once it has told that, and
-// when that may be told aloud again.
+// While the device leads: the promise of a screen that stays on, where it is, once it has told that, and when that may
+// be told aloud again.
 let led = null;
 
 const isLeading = () => led !== null;
@@ -29,9 +29,9 @@ function showWay() {
   const place = placeOnMap(), at = led?.at;
   byId("lead").hidden = byId("here").hidden || form?.fresh || !(place || led);  // who makes a row stands at it
   byId("way").className = led ? "led" : "";
-  byId("way").textContent = !place ? "" : led && !at ? "asking the device .."
-    : at ? `${wordsOfWay(place.east - at.east, place.north - at.north)}, within ${Math.ceil(at.accuracy)} m`
-    : `From the map's middle: ${wayFromMiddle(place)}`;
+  byId("way").textContent = !place ? "" : led && !at ? phrase("asking the device ..")
+    : at ? [wordsOfWay(place.east - at.east, place.north - at.north), wordsOfFix(at.fix, myAge())].join(", ")
+    : phrase("From the map's middle: {0}", wayFromMiddle(place));
   showOffset(place, at);
 }
 
@@ -40,15 +40,14 @@ function showWay() {
  * it.
  */
 function lead(on) {
-  if (led) navigator.geolocation.clearWatch(led.watch);
   led?.awake?.then(it => it?.release());
   led = null;
   byId("lead").setAttribute("aria-pressed", String(on));
   if (on) {
-    const how = { enableHighAccuracy: true, timeout: DEVICE_PATIENCE, maximumAge: 0 };
-    led = { watch: navigator.geolocation.watchPosition(follow, cannotLead, how), awake: null, at: null, aloud: 0 };
+    led = { awake: null, at: null, aloud: 0 };
+    askForPlaces("way", follow, cannotLead);
     stayAwake();
-  }
+  } else askForNone("way");
   showDraft();
 }
 
@@ -61,13 +60,12 @@ function stayAwake() {
 }
 
 /** Shows where the device is now, and the way from there; the map follows where it has left that. */
-function follow({ coords }) {
-  const place = placeOnMap(), isFirst = !led?.at;
+function follow(fix) {
+  const place = placeOnMap(), isFirst = !led?.at, at = onMyMap(fix);
   if (!led || !place) return;
-  led.at = { ...projected(rows.systems[shown.srs_id], coords.longitude, coords.latitude), accuracy: coords.accuracy };
-  Object.assign(led.at, { height: coords.altitude ?? null, heightWithin: coords.altitudeAccuracy ?? null });
+  if (!at) return cannotLead(whyNotHere(fix));
+  led.at = at;
   const here = L.latLng(led.at.north, led.at.east);
-  drawDevice(led.at);
   showDraft();
   signalReached(place, led.at);
   tellAloud();
@@ -90,7 +88,8 @@ function cannotLead(error) {
 
 /** What follows the map's middle, where that has moved. */
 function moved() {
-  nameMarks();
+  drawMarks();
+  showLines();
   if (form) showWay();
-  if (byId("order").value === "near") showRows();
+  if (byId("order").value === "near" && !isNearMe()) showRows();
 }

@@ -4,7 +4,7 @@
 async function endDay() {
   let isStrange = false;
   if (isHeld()) return;
-  if (nextOf(outbox.waiting, KEY)) say("ended", "What waits is sent first, and then the day ends.");
+  if (nextOf(outbox.waiting, KEY)) say("ended", phrase("What waits is sent first, and then the day ends."));
   await send();
   await navigator.locks.request(outbox.store.name, async () => {
     const response = await fetch(`${ROOT}end`, { method: "POST", redirect: "manual" }).catch(() => null);
@@ -14,17 +14,18 @@ async function endDay() {
     isStrange = Boolean(told) && !hasEnded() && !isNo(told);
   });
   say("ended", null);
-  if (!hasEnded()) return tellState(`${isStrange ? STRANGER : NO_ANSWER}: the day isn't ended`, "gone");
+  const why = isStrange ? phrase(STRANGER) : NO_ANSWER;
+  if (!hasEnded()) return tellState(phrase("{0}: the day isn't ended", why), "gone");
   await count();
 }
 
 /** Tells that the day is ended, and what isn't in the package. */
 function tellEnd(left) {
-  const whole = "the day is ended: the package is closed";
-  tellState(left ? `the day is ended, without this: ${left}` : whole, left ? "gone" : "");
+  const whole = phrase("the day is ended: the package is closed");
+  tellState(left ? phrase("the day is ended, without this: {0}", left) : whole, left ? "gone" : "");
   say("ended", left
-    ? "The package is closed, and what 'Not in the package yet' lists isn't in it: open it again for that."
-    : "The package is closed, and its file may be copied. This page may be closed too.");
+    ? phrase("The package is closed, and what 'Not in the package yet' lists isn't in it: open it again for that.")
+    : phrase("The package is closed, and its file may be copied. This page may be closed too."));
 }
 
 /** Goes on where the package answers again. */
@@ -40,11 +41,7 @@ function tellKept(isLasting) {
 }
 
 function listenToList() {
-  byId("book").addEventListener("change", () => {
-    if (isHeld()) return void (byId("book").value = rows.showing);
-    closeForm();
-    readRows();
-  });
+  byId("book").addEventListener("change", () => changeTable(byId("book").value));
   byId("search").addEventListener("input", search);
   byId("order").addEventListener("change", showRows);
   byId("state").addEventListener("click", () => {
@@ -59,23 +56,27 @@ function listenToList() {
 }
 
 async function startWork(known) {
-  byId("toggle").replaceChildren("Work", element("span", " and tables"));
+  byId("toggle").replaceChildren(phrase("Work"), element("span", ` ${phrase("and tables")}`));
   document.querySelector("main").classList.add("works");
   byId("state").hidden = byId("work").hidden = false;
   for (const it of ["book", "into"]) byId(it).replaceChildren(...tables().map(option));
-  byId("book").value = (tables().find(it => photosOf(it.table)) ?? tables()[0])?.table ?? "";
-  if (!tables().length) say("tables", "The package has no table for rows yet.");
+  byId("book").value = (tables().find(it => photosOf(it.table)) ?? tables().find(it => it.table !== FORMS)
+    ?? tables()[0])?.table ?? "";
+  if (!tables().length) say("tables", phrase("The package has no table for rows yet."));
   byId("fresh").disabled = !tables().length;
   listenToForm();
+  listenToFields();
   listenToList();
+  listenToLegend();
   listenToOthers();
   await openOutbox(known.package).catch(error => {
-    say("store", `This browser keeps nothing that waits (${error.message}): work in a window that isn't private.`);
+    say("store", phrase("This browser keeps nothing that waits ({0}): work in a window that isn't private.",
+      error.message));
     throw error;
   });
   if (await hasOther()) {
-    say("other", "This browser keeps work for another package too, which isn't in that yet: open it at this port to " +
-      "send it.");
+    say("other", phrase("This browser keeps work for another package too, which isn't in that yet: open it at this " +
+      "port to send it."));
   }
   navigator.storage?.persisted?.().then(tellKept);
   navigator.storage?.persist?.().then(tellKept);  // which may ask the user, and isn't waited for
@@ -83,5 +84,6 @@ async function startWork(known) {
   await readRows();
   showWaiting();
   await startDrafts();
+  findTrack();
   send();
 }

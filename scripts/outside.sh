@@ -94,7 +94,7 @@ want sqlite3:sqlite3 curl:curl xxd:xxd cc:gcc python3:python3
 want gdalinfo:gdal-bin gdal2tiles.py:python3-gdal /usr/lib/python3/dist-packages/osgeo:python3-gdal
 want chromium:chromium firefox-esr:firefox-esr /usr/share/javascript/leaflet/leaflet.min.js:libjs-leaflet lintian:lintian debootstrap:debootstrap
 want qemu-system-x86_64:qemu-system-x86 busybox:busybox-static /usr/sbin/mkfs.vfat:dosfstools mcopy:mtools cpio:cpio shellcheck:shellcheck pyflakes3:pyflakes3 desktop-file-validate:desktop-file-utils
-want node:nodejs eslint:eslint tsc:node-typescript
+want node:nodejs eslint:eslint tsc:node-typescript /usr/lib/python3/dist-packages/piexif:python3-piexif
 begin 'the example' example
 tell
 begin 'a power cut' scripts/outside/power_cut.sh

@@ -42,6 +42,11 @@ PREFERENCES = {
     "toolkit.startup.max_resumed_crashes": -1,
     "toolkit.telemetry.enabled": False,
 }
+CAMERA = {
+    "media.navigator.streams.fake": True,
+    "media.navigator.permission.disabled": True,
+    "media.autoplay.default": 0,
+}
 EVENTS = ["log.entryAdded", "network.beforeRequestSent", "browsingContext.contextCreated"]
 # What is answered while one page goes and another comes, or none does, as where nobody has the port.
 AWAY = (
@@ -63,7 +68,8 @@ KEYS = {
     "ArrowDown": "\ue015",
     "Delete": "\ue017",
 }
-# Tells a page where the device is. Firefox has a command for that, but tells its own device's errors to who watches, too.
+# Tells a page where the device is. Firefox has a command for that, but tells its own device's errors to who watches,
+# too.
 DEVICE = """coords => {
   const device = navigator.geolocation, watches = device.watches ??= new Map();
   device.now = { coords, timestamp: Date.now() };
@@ -193,10 +199,11 @@ def plain(told):
 class Browser:
     """A Firefox of its own; ends with the block that it is made in."""
 
-    def __init__(self, command, profile):
+    def __init__(self, command, profile, camera=False, language="en"):
         self.profile = pathlib.Path(profile)
         self.profile.mkdir(parents=True, exist_ok=True)
-        lines = [f"user_pref({json.dumps(name)}, {json.dumps(value)});\n" for name, value in PREFERENCES.items()]
+        wanted = PREFERENCES | (CAMERA if camera else {}) | {"intl.accept_languages": language}
+        lines = [f"user_pref({json.dumps(name)}, {json.dumps(value)});\n" for name, value in wanted.items()]
         (self.profile / "user.js").write_text("".join(lines))
         (self.profile / PORT_FILE).unlink(missing_ok=True)
         self.process = subprocess.Popen(

@@ -1,13 +1,15 @@
 #!/usr/bin/env python3
-"""Compares what crosses the border with GDAL's view of it, and packages with what comes back. Called by scripts/outside/border.sh.
+"""Compares what crosses the border with GDAL's view of it, and packages with what comes back. Called by
+scripts/outside/border.sh.
 
     MMPKG=out/mmpkg scripts/outside/border_check.py [--python PYTHON] [WORD ..]
 
-PYTHON is an interpreter with GDAL's modules (Debian's python3-gdal is for /usr/bin/python3); WORD picks the checks whose names have it.
-The last line is 'N passed, M failed'; the exit status is 1 where one failed.
+PYTHON is an interpreter with GDAL's modules (Debian's python3-gdal is for /usr/bin/python3); WORD picks the checks
+whose names have it. The last line is 'N passed, M failed'; the exit status is 1 where one failed.
 
-Two packages are equal where 'mmpkg list' tells the same tables at the same moments, and all tables have the same rows. Editions, their
-pieces and the ids of relations are no part of it, and a definition of a system that is no WKT counts as 'undefined'.
+Two packages are equal where 'mmpkg list' tells the same tables at the same moments, and all tables have the same rows.
+Editions, their pieces and the ids of relations are no part of it, and a definition of a system that is no WKT counts as
+'undefined'.
 """
 
 import argparse
@@ -15,6 +17,7 @@ import contextlib
 import csv
 import hashlib
 import io
+import json
 import pathlib
 import random
 import re
@@ -188,7 +191,8 @@ def nine_tiles():
 
 
 def check_worked_example(folder):
-    """The example that begins with GDAL's picture ends with its colours in their places, but for the tile that was edited."""
+    """The example that begins with GDAL's picture ends with its colours in their places, but for the tile that was
+    edited."""
     run(TOP / "examples" / "border" / "run.sh", folder / "example")
     out = folder / "example" / "out.gpkg"
     lines = (TOP / "examples" / "border" / "colours.txt").read_text().splitlines()
@@ -290,7 +294,8 @@ def random_pyramid(source, name, system):
 
 
 def random_package(seed):
-    """Records of a package by a seed: systems, pyramids, rows, media, relations and an edition, with odd texts and numbers at their limits."""
+    """Records of a package by a seed: systems, pyramids, rows, media, relations and an edition, with odd texts and
+    numbers at their limits."""
     source = random.Random(seed)
     lines = [
         record(["srs", 2**53, random_text(source, 1), "NONE", 1, "no wkt", random_text(source, 0)]),
@@ -452,7 +457,8 @@ NEWER = (
 
 
 def check_units_of_systems(_):
-    """A system is taken only where its coordinates are no degrees and no feet, also with heights, of a site alone, and in the newer WKT."""
+    """A system is taken only where its coordinates are no degrees and no feet, also with heights, of a site alone, and
+    in the newer WKT."""
     plane = f'PROJCS["n",GEOGCS["g",{DEGREE}],{{}}]'
     foot, degrees = "its unit isn't the metre", "it is geographic"
     for definition, why in (
@@ -492,7 +498,8 @@ def check_what_is_left_out(folder):
 
 
 def check_what_is_refused(folder):
-    """No package is told by the program's own numbers; nothing is written or overwritten, and FILE stays byte for byte."""
+    """No package is told by the program's own numbers; nothing is written or overwritten, and FILE stays byte for
+    byte."""
     new_package(folder / "a.mmpkg", nine_tiles())
     with contextlib.closing(sqlite3.connect(folder / "a.mmpkg")) as opened:
         opened.execute("UPDATE gpkg_contents SET description = 'x' WHERE table_name = 'spots'")
@@ -542,7 +549,8 @@ def check_units_of_the_profile(folder):
 
 
 def check_what_stands_in_the_journal(folder):
-    """A command that was answered crosses where the program was killed behind it, when it stands in the journal alone."""
+    """A command that was answered crosses where the program was killed behind it, when it stands in the journal
+    alone."""
     mmpkg("init", folder / "a.mmpkg")
     with subprocess.Popen(
         [PROGRAM, "run", folder / "a.mmpkg", "--at", "0"], stdin=subprocess.PIPE, stdout=subprocess.PIPE
@@ -569,7 +577,8 @@ def patched(name, patch, *words, status=0):
 
 
 def check_a_link_to_a_package(folder):
-    """A package is read with its journal, and a GeoPackage with its own, also where a link in another folder leads to it."""
+    """A package is read with its journal, and a GeoPackage with its own, also where a link in another folder leads to
+    it."""
     for name in ("here", "there"):
         (folder / name).mkdir()
     new_package(folder / "here" / "a.mmpkg", nine_tiles())
@@ -613,7 +622,8 @@ def check_a_journal_beside_a_name(folder):
 
 
 def check_reading_in_place(folder):
-    """A package whose journal holds nothing is read without a copy; where a copy has no room that is told with what it wants."""
+    """A package whose journal holds nothing is read without a copy; where a copy has no room that is told with what it
+    wants."""
     new_package(folder / "a.mmpkg", nine_tiles())
     patched("export_standard", "border.shutil.copyfile = None", folder / "a.mmpkg", folder / "in_place.gpkg")
     with subprocess.Popen(
@@ -657,7 +667,8 @@ def check_stopped_by_hand(folder):
 
 
 def check_names_with_spaces(folder):
-    """The commands that are printed are quoted as a shell wants them, and a folder that stands is named before the work."""
+    """The commands that are printed are quoted as a shell wants them, and a folder that stands is named before the
+    work."""
     new_package(folder / "a.mmpkg", nine_tiles())
     export(folder / "a.mmpkg", folder / "in.gpkg")
     words = ("import_standard.py", folder / "in.gpkg", folder / "my list.csv", "--kit", "first", folder / "my kit")
@@ -689,18 +700,16 @@ POINT = (
 )
 
 
+def small_picture(folder):
+    """A small picture of nine colours, as a GeoTIFF."""
+    example = TOP / "examples" / "border"
+    words = ("gdaldem", "color-relief", "-q", "-nearest_color_entry")
+    run(*words, example / "picture.asc", example / "colours.txt", folder / "small.tif")
+
+
 def geotiff(folder, width, height, system="EPSG:25832", corner=(500_000, 5_600_000), pixel=1):
     """A picture of nine colours as GDAL's users have it: of no whole number of tiles."""
-    example = TOP / "examples" / "border"
-    run(
-        "gdaldem",
-        "color-relief",
-        "-q",
-        "-nearest_color_entry",
-        example / "picture.asc",
-        example / "colours.txt",
-        folder / "small.tif",
-    )
+    small_picture(folder)
     left, low = corner
     place = left, low + height * pixel, left + width * pixel, low
     run(
@@ -768,7 +777,8 @@ def check_bounds_are_kept(folder):
 
 
 def check_without_optional_tables(folder):
-    """A GeoPackage without the tables that the standard doesn't ask for comes in whole, as far as they told of nothing."""
+    """A GeoPackage without the tables that the standard doesn't ask for comes in whole, as far as they told of
+    nothing."""
     new_package(folder / "a.mmpkg", "table,spots,attributes,Spots\nrow,spots,7,Well,,3\n")
     export(folder / "a.mmpkg", folder / "in.gpkg")
     for table in ("gpkg_extensions", "gpkgext_relations", "gpkg_tile_matrix_set", "gpkg_tile_matrix"):
@@ -791,7 +801,8 @@ def check_without_optional_tables(folder):
 
 
 def check_nothing_is_written_over(folder):
-    """What other rows, media and tiles of FILE an import would write over is named, and nothing is made but with --replace."""
+    """What other rows, media and tiles of FILE an import would write over is named, and nothing is made but with
+    --replace."""
     new_package(folder / "a.mmpkg", nine_tiles() + "row,spots,8,Gate,,1\nrow,spots,9,Oak,,1\nrow,spots,11,Ash,,1\n")
     export(folder / "a.mmpkg", folder / "in.gpkg")
     with contextlib.closing(sqlite3.connect(folder / "in.gpkg")) as opened:
@@ -835,7 +846,8 @@ def check_nothing_is_written_over(folder):
 
 
 def check_numbers_of_a_second_layer(folder):
-    """A second layer gets the numbers behind the last with its photos, or those from --first-id on, or keeps its own by --key."""
+    """A second layer gets the numbers behind the last with its photos, or those from --first-id on, or keeps its own by
+    --key."""
     layer = "table,spots,attributes,Spots\ntable,photos,media,Photos\nrelation,spots_photos,spots,photos,media\n"
     new_package(
         folder / "a.mmpkg",
@@ -925,7 +937,8 @@ HANDED_OVER_NOTED = [
 
 
 def check_what_a_gis_hands_over(folder):
-    """Names, keys and values as GDAL and QGIS write them come in by --table and --key, and what doesn't is told with what takes it."""
+    """Names, keys and values as GDAL and QGIS write them come in by --table and --key, and what doesn't is told with
+    what takes it."""
     standard_of(geotiff(folder, 768, 768), folder / "in.gpkg", "Basemap")
     with contextlib.closing(sqlite3.connect(folder / "in.gpkg")) as opened:
         opened.executescript(HANDED_OVER)
@@ -985,7 +998,8 @@ def rows_in(listed):
 
 
 def check_remedies(folder):
-    """The commands that are told for a map in degrees of arc or of Web Mercator, and for a layer of features, run as they are told."""
+    """The commands that are told for a map in degrees of arc or of Web Mercator, and for a layer of features, run as
+    they are told."""
     for system, corner, pixel in (
         ("EPSG:3857", (1_001_875.4, 6_446_275.8), 2.388657133911758),
         ("EPSG:4326", (9, 50.5), 0.00001),
@@ -1056,7 +1070,8 @@ BROUGHT = {
 
 
 def imported(*words, status=0):
-    """What an import tells on standard error, which has to end with the status; it has no process of its own, since there are many."""
+    """What an import tells on standard error, which has to end with the status; it has no process of its own, since
+    there are many."""
     told, given = io.StringIO(), sys.argv
     try:
         sys.argv = ["import_standard.py", *map(str, words)]
@@ -1099,7 +1114,8 @@ def check_odd_files(folder):
 
 
 def check_columns_go_in_and_out(folder):
-    """With --columns a layer comes in with all its columns, by its own key, and goes out with them, letter by letter."""
+    """With --columns a layer comes in with all its columns, by its own key, and goes out with them, letter by
+    letter."""
     run(python_with_gdal, TOP / "scripts" / "outside" / "odd_files.py", folder)
     with contextlib.closing(sqlite3.connect(folder / "stones.gpkg")) as opened:
         for (name,) in opened.execute(
@@ -1182,7 +1198,8 @@ WAYPOINTS = (
 
 
 def check_texts_of_devices(folder):
-    """A surveyor's text with semicolons, decimal commas and Latin-1, and waypoints of a GPX, come in behind the command that is told."""
+    """A surveyor's text with semicolons, decimal commas and Latin-1, and waypoints of a GPX, come in behind the command
+    that is told."""
     wanted = {
         "stones 1.csv": (
             STONES.encode("latin1"),
@@ -1336,7 +1353,8 @@ def points_package(file):
 
 
 def check_points_go_out_and_in(folder):
-    """Rows go out as points at their places with their photos, and come in letter by letter but for where a place stood in its note."""
+    """Rows go out as points at their places with their photos, and come in letter by letter but for where a place stood
+    in its note."""
     points_package(folder / "a.mmpkg")
     _, told = tool("export_standard.py", folder / "a.mmpkg", folder / "out.gpkg", "--points", "spots", "bare")
     expect(
@@ -1376,6 +1394,116 @@ def check_points_go_out_and_in(folder):
     expect(told, "--points: 'photos' is no attribute table of the package\n", "what is told of a table of photos")
 
 
+# Corners of a line and of an area that is drawn as the clock goes, as a crew's page keeps them; degrees are by
+# gdaltransform.
+CORNERS = [[500070, 5600060], [500350, 5600300.25], [500350, 5600060]]
+IN_DEGREES = [[9.000988108, 50.552471971], [9.004940766, 50.554632485], [9.00494054, 50.552471871]]
+TRACK = """<?xml version="1.0" encoding="UTF-8"?>
+<gpx version="1.1" creator="mmpkg" xmlns="http://www.topografix.com/GPX/1/1">
+<trk>
+<trkseg><trkpt lat="50.552471971" lon="9.000988108"><time>2026-06-15T12:00:00.000Z</time></trkpt>
+<trkpt lat="50.554632485" lon="9.004940766"><ele>181.50</ele><time>2026-06-15T12:02:30.500Z</time></trkpt></trkseg>
+<trkseg><trkpt lat="50.5" lon="9.1"/></trkseg>
+<trkseg><trkpt lat="50.5" lon="9"/><trkpt lat="50.5" lon="9.25"><time>2026-06-15T14:04:00+02:00</time></trkpt></trkseg>
+</trk>
+</gpx>
+"""
+
+
+def feature(geometry, **properties):
+    return json.dumps({"type": "Feature", "geometry": geometry, "properties": properties})
+
+
+def shapes_package(file):
+    """Rows with a line, an area, a track, a line of a plan, one in degrees alone, and files of GeoJSON that are none of
+    these."""
+    area = {"type": "Polygon", "coordinates": [[*IN_DEGREES, IN_DEGREES[0]]]}
+    files = {
+        10: feature(
+            {"type": "LineString", "coordinates": IN_DEGREES[:2]}, kind="line", system=25832, corners=CORNERS[:2]
+        ),
+        11: feature(area, kind="area", system=25832, corners=CORNERS),
+        12: TRACK,
+        13: feature(None, kind="line", system=7, corners=[[1.5, 2], [3.000001, -4]]),
+        14: feature({"type": "LineString", "coordinates": [[9, 50, 200], [9.5, 50.25, 201]]}),
+        15: '{"type":"FeatureCollection","features":[]}',
+        16: feature({"type": ["Polygon"], "coordinates": 1}, kind="area", system=True, corners=CORNERS),
+        17: "[" * 100_000,
+    }
+    lines = [["srs", 7, "plan", "NONE", 7, "metres", ""], ["row", "spots", 8, "Way, \"old\"", "", 0]]
+    for number, text in files.items():
+        kind = "application/gpx+xml" if number == 12 else "application/geo+json"
+        lines += [
+            ["media", "photos", number, kind, text.encode().hex()],
+            ["map", "spots_photos", 8 if number == 12 else 7, number],
+        ]
+    new_package(file, nine_tiles() + "".join(map(record, lines)))
+    return files
+
+
+def seen_by_gdal(out, folder, layer):
+    """The rows of a layer as GDAL reads them, with their geometries as WKT, in which whole numbers have no decimals."""
+    (folder / "seen.csv").unlink(missing_ok=True)
+    run("ogr2ogr", "-f", "CSV", "-lco", "GEOMETRY=AS_WKT", folder / "seen.csv", out, layer)
+    with open(folder / "seen.csv", encoding="utf-8", newline="") as it:
+        return [[re.sub(r"\.0(?=[ ,)])", "", value) for value in row.values()] for row in csv.DictReader(it)]
+
+
+def check_lines_areas_and_tracks(folder):
+    """Lines, areas and tracks of rows go out as layers, as GDAL reads them, and as the files that they are; as these
+    they come in again."""
+    files = shapes_package(folder / "a.mmpkg")
+    told = export(folder / "a.mmpkg", folder / "out.gpkg", "--photos", folder / "files")
+    none = ", ".join(f"item {it} of photos" for it in (15, 16, 17))
+    expect(told, f"note: {none}: no line, no area and no track for a layer; it is in its table\n", "what is told")
+    validate(folder / "out.gpkg")
+    seen = {
+        it: seen_by_gdal(folder / "out.gpkg", folder, f"spots_{it}")
+        for it in ("lines", "lines_2", "lines_3", "areas", "tracks")
+    }
+    expect(seen, {
+        "lines": [["LINESTRING (500070 5600060,500350 5600300.25)", "7", "Well", "10"]],
+        "lines_2": [["LINESTRING (1.5 2,3.000001 -4)", "7", "Well", "13"]],
+        "lines_3": [["LINESTRING (9 50,9.5 50.25)", "7", "Well", "14"]],
+        "areas": [["POLYGON ((500070 5600060,500350 5600060,500350 5600300.25,500070 5600060))", "7", "Well", "11"]],
+        "tracks": [["MULTILINESTRING ((9.000988108 50.552471971,9.004940766 50.554632485),(9 50.5,9.25 50.5))", "8", "Way, \"old\"", "12",
+                    "2026/06/15 12:00:00+00", "2026/06/15 12:04:00+00"]]}, "layers by GDAL")  # fmt: skip
+    for layer, words in (
+        ("lines", "ETRS89 / UTM zone 32N"),
+        ("areas", "ETRS89 / UTM zone 32N"),
+        ("lines_3", "WGS 84"),
+        ("tracks", "WGS 84"),
+    ):
+        assert words in run("ogrinfo", "-so", folder / "out.gpkg", f"spots_{layer}")[0], f"the system of {layer}"
+    area = run(
+        "ogrinfo",
+        "-q",
+        "-sql",
+        "SELECT ST_Area(geom) AS area FROM spots_areas",
+        "-dialect",
+        "SQLite",
+        folder / "out.gpkg",
+    )[0]
+    assert "area (Real) = 33635\n" in area, area  # 280 by 240.25, halved
+    found = {
+        it.name: it.read_text() for it in (folder / "files" / "spots").iterdir() if it.suffix in (".geojson", ".gpx")
+    }
+    expect(sorted(found.values()), sorted(files.values()), "files")
+    expect("Way_old-8.gpx" in found, True, f"the name of a track's file: {sorted(found)}")
+    told = run("ogrinfo", "-ro", "-so", folder / "files" / "spots" / "Way_old-8.gpx", "track_points")[0]
+    assert "Feature Count: 5\n" in told, told
+    commands, told = tool("import_standard.py", folder / "out.gpkg", folder / "list.csv")
+    tables = ", ".join(f"table spots_{it}" for it in sorted(seen))
+    expect(
+        untold(told),
+        f"note: {tables}: left behind, since its shapes come in as files of their rows\n",
+        "what the import tells",
+    )
+    mmpkg("init", folder / "back.mmpkg")
+    take_in(commands, folder / "back.mmpkg", folder)
+    expect_equal(folder / "a.mmpkg", folder / "back.mmpkg")
+
+
 BY_A_GIS = """
 ALTER TABLE spots RENAME COLUMN geom TO shape;
 UPDATE gpkg_geometry_columns SET column_name = 'shape', geometry_type_name = 'GEOMETRY';
@@ -1391,7 +1519,8 @@ SHAPES = {
 
 
 def check_places_of_a_plan(folder):
-    """Places in the system without a definition, and behind spaces that aren't ASCII, go out and come in; what no place can be is named."""
+    """Places in the system without a definition, and behind spaces that aren't ASCII, go out and come in; what no place
+    can be is named."""
     layout = "table,spots,attributes,Spots\npyramid,plan,Plan,-1,0,0,64000000,64000000,two\nmatrix,plan,0,1,1,64,64,1000000,1000000\n"
     rows = [["row", "spots", 1, "Oak", "@-1:500.5/600.25 old", 0], ["row", "spots", 2, "Ash", "tall\u00a0@5/6", 0]]
     new_package(folder / "a.mmpkg", layout + "".join(map(record, rows)))
@@ -1415,7 +1544,8 @@ def check_places_of_a_plan(folder):
 
 
 def check_points_of_other_programs(folder):
-    """Points in either order of bytes, with heights, and empty ones come in; what is no point is named, and the rest comes in."""
+    """Points in either order of bytes, with heights, and empty ones come in; what is no point is named, and the rest
+    comes in."""
     points_package(folder / "a.mmpkg")
     tool("export_standard.py", folder / "a.mmpkg", folder / "out.gpkg", "--points", "spots")
     with contextlib.closing(sqlite3.connect(folder / "out.gpkg")) as opened:
@@ -1436,7 +1566,8 @@ def check_points_of_other_programs(folder):
 
 
 def check_what_gdal_puts_in(folder):
-    """GDAL writes into a package that is named as a GeoPackage; what it put in is taken out, and the package is as it was."""
+    """GDAL writes into a package that is named as a GeoPackage; what it put in is taken out, and the package is as it
+    was."""
     (folder / "points.json").write_text(POINT)
     new_package(folder / "a.mmpkg", nine_tiles())
     shutil.copyfile(folder / "a.mmpkg", folder / "trap.gpkg")
@@ -1478,16 +1609,7 @@ def check_what_can_not_be_mended(folder):
 
 def check_kit_of_gdal2tiles(folder):
     """The tiles that gdal2tiles.py cuts come in as a kit and show their colours in their places."""
-    example = TOP / "examples" / "border"
-    run(
-        "gdaldem",
-        "color-relief",
-        "-q",
-        "-nearest_color_entry",
-        example / "picture.asc",
-        example / "colours.txt",
-        folder / "small.tif",
-    )
+    small_picture(folder)
     run(
         "gdal_translate",
         "-q",

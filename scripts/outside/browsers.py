@@ -27,9 +27,13 @@ def is_firefox(command):
     return "firefox" in pathlib.Path(command).name
 
 
-def start(command, profile):
-    """Starts a browser with a profile, which is made where there is none."""
-    return (bidi if is_firefox(command) else devtools).Browser(command, profile)
+def start(command, profile, camera=False, language="en"):
+    """Starts a browser with a profile, which is made where there is none.
+
+    With `camera` it has a camera and a microphone of its own making, which each page may have unasked. It tells pages
+    that its user reads `language`, whatever the machine's is.
+    """
+    return (bidi if is_firefox(command) else devtools).Browser(command, profile, camera, language)
 
 
 def there():

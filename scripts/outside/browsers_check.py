@@ -165,7 +165,8 @@ def check_what_a_profile_keeps(scene):
 
 
 def check_a_list_that_moves(scene):
-    """A button of the list that goes with its item isn't pressed, nor another in its place; of no item there is none."""
+    """A button of the list that goes with its item isn't pressed, nor another in its place; of no item there is
+    none."""
     listed = """const list = document.createElement('ul');
       list.id = 'outbox';
       list.innerHTML = '<li>one <button>Send</button></li><li>two <button>Change</button></li>';

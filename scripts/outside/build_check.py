@@ -3,9 +3,9 @@
 
     scripts/outside/build_check.py [WORD ..]
 
-A tree of three small crates gets the scripts of this one, and an `rt` that proves nothing: it takes its time, keeps what
-the toolchain's keeps, and refuses at the gate a list of crates below the top, as the toolchain's does. The last line is
-'N passed, M failed'. With words only the checks whose names have one of them.
+A tree of three small crates gets the scripts of this one, and an `rt` that proves nothing: it takes its time, keeps
+what the toolchain's keeps, and refuses at the gate a list of crates below the top, as the toolchain's does. The last
+line is 'N passed, M failed'. With words only the checks whose names have one of them.
 """
 import contextlib
 import os
@@ -72,8 +72,15 @@ class Tree:
 
     def begin(self, script, **words):
         """Begins a script in a session of its own."""
-        return subprocess.Popen([self.top / script], env={**self.words, **words}, text=True, start_new_session=True,
-                                stdin=subprocess.DEVNULL, stdout=subprocess.PIPE, stderr=subprocess.STDOUT)
+        return subprocess.Popen(
+            [self.top / script],
+            env={**self.words, **words},
+            text=True,
+            start_new_session=True,
+            stdin=subprocess.DEVNULL,
+            stdout=subprocess.PIPE,
+            stderr=subprocess.STDOUT,
+        )
 
     def run(self, script, status=0, **words):
         """Runs a script to its end, and answers what it said."""
@@ -141,8 +148,11 @@ def check_a_second_build_proves_nothing_anew(tree):
 
 
 def check_a_crate_that_is_refused(tree):
-    expect(tree.run("scripts/build.sh", 1, RT_FAILS="high").splitlines()[-1],
-           "mmpkg was not built: out/build.log has more", "the last line")
+    expect(
+        tree.run("scripts/build.sh", 1, RT_FAILS="high").splitlines()[-1],
+        "mmpkg was not built: out/build.log has more",
+        "the last line",
+    )
     expect(tree.lists(), [], "lists of crates")
 
 

@@ -3,8 +3,9 @@ r"""Runs the program on the transcripts of a folder, and compares all that it an
 
     scripts/outside/cases.py PROGRAM FOLDER     the last line is 'N passed, M failed'
 
-A transcript NAME.case is a list of steps, done in turn in a new folder of its own; the first that fails ends it. Lines that begin
-with # are comments. A step that runs the program is the line '$ WORDS', the words as a shell reads them, and behind it
+A transcript NAME.case is a list of steps, done in turn in a new folder of its own; the first that fails ends it. Lines
+that begin with # are comments. A step that runs the program is the line '$ WORDS', the words as a shell reads them, and
+behind it
 
     < TEXT               a line of its input
     > TEXT               a line that it must print; '>' alone is an empty line
@@ -35,7 +36,8 @@ there. The other steps are
     ! limit WHAT SIZE    from here on the program may have so many bytes of 'memory', or make no file longer ('files'); without SIZE any
     ! listen             the port is taken, by a listener of this script's own
 
-In all lines \xHH is a byte, \x00..\xff all bytes from one to another, \5{TEXT} is TEXT five times, and {port} the port, a free one.
+In all lines \xHH is a byte, \x00..\xff all bytes from one to another, \5{TEXT} is TEXT five times, and {port} the port,
+a free one.
 """
 
 import contextlib
@@ -62,7 +64,8 @@ from make_profile_1 import put_back
 PATIENCE = 120
 # How many lines are shown of a text that is not the wanted one.
 SHOWN = 40
-# What of a response that is not read the system holds for a connection at most, so that the program waits for its reader.
+# What of a response that is not read the system holds for a connection at most, so that the program waits for its
+# reader.
 HELD_BYTES = 4096
 # What a program's share is limited of.
 LIMITS = {"memory": resource.RLIMIT_AS, "files": resource.RLIMIT_FSIZE}
@@ -143,7 +146,9 @@ def shown(name, text, other):
     if len(lines) > SHOWN:
         differ = [at for at, pair in enumerate(zip(lines, others)) if pair[0] != pair[1]]
         first = differ[0] if differ else min(len(lines), len(others))
-    told = "".join(f"    {line[:200].decode(errors='backslashreplace').rstrip()}\n" for line in lines[first : first + SHOWN])
+    told = "".join(
+        f"    {line[:200].decode(errors='backslashreplace').rstrip()}\n" for line in lines[first : first + SHOWN]
+    )
     return f"  {name}, {len(text)} bytes, from line {first + 1}:\n{told}"
 
 
@@ -175,7 +180,8 @@ def steps_of(path, port):
 
 
 def connected(step, port, program):
-    """Returns a connection to the port on which the program is to listen, with all sent that the step has; none where the program ended."""
+    """Returns a connection to the port on which the program is to listen, with all sent that the step has; none where
+    the program ended."""
     end = time.monotonic() + PATIENCE
     while program.poll() is None and time.monotonic() < end:
         connection = socket.socket()
@@ -241,8 +247,22 @@ class Room:
 
     def do(self, step):
         """Does a step, and fails where something else comes of it than must."""
-        verbs = {"$": self.run, "write": self.write, "cut": self.cut, "sql": self.sql, "older": self.older, "listen": self.listen}
-        verbs |= {"same": self.same, "missing": self.missing, "folder": self.make_folder, "remove": self.remove, "limit": self.limit, "link": self.link}
+        verbs = {
+            "$": self.run,
+            "write": self.write,
+            "cut": self.cut,
+            "sql": self.sql,
+            "older": self.older,
+            "listen": self.listen,
+        }
+        verbs |= {
+            "same": self.same,
+            "missing": self.missing,
+            "folder": self.make_folder,
+            "remove": self.remove,
+            "limit": self.limit,
+            "link": self.link,
+        }
         if step.verb not in verbs:
             raise Failed("no such step")
         verbs[step.verb](step)
@@ -262,7 +282,9 @@ class Room:
                 held.callback(os.close, ends["<"])
             how = {"executable": self.program, "cwd": self.folder, "env": {}, "preexec_fn": self.put_limits}
             began = time.monotonic()
-            program = subprocess.Popen(["mmpkg", *map(bytes_of, words)], stdin=ends["<"], stdout=ends[">"], stderr=ends["2>"], **how)
+            program = subprocess.Popen(
+                ["mmpkg", *map(bytes_of, words)], stdin=ends["<"], stdout=ends[">"], stderr=ends["2>"], **how
+            )
             held.enter_context(program)
             held.callback(program.kill)
             self.compare(step, program)
@@ -336,7 +358,8 @@ class Room:
             self.limits[LIMITS[what]] = int(size)
 
     def put_limits(self):
-        """Limits the program that begins, which is told by an error where a file would be longer, and not ended by the signal."""
+        """Limits the program that begins, which is told by an error where a file would be longer, and not ended by the
+        signal."""
         for what, size in self.limits.items():
             resource.setrlimit(what, (size, resource.getrlimit(what)[1]))
         if resource.RLIMIT_FSIZE in self.limits:

@@ -3,13 +3,14 @@
 
     scripts/outside/check_docs.py [--tours] [PROGRAM]     the last line is 'N passed, M failed'
 
-Each line '    $ COMMAND' of README.md and docs/USING.md is run in turn, in a new folder with the examples, and must print the lines that
-stand below it; 'cat' of a file that is not there makes it of them. Each edit of must-fail/ is named in docs/PROOFS.md, in bold, and each mutant;
-each name in backticks there that looks like one of the code stands in some crate, script or transcript. Each line of cases/README.md names
-what shows its behaviour: a transcript, a test, an edit, a mutant or a script that there is, or behind 'proved:' a name of docs/PROOFS.md.
-Each text of docs/NUMBERS.md is what the program explains by its number, whole, and each number of docs/FORMATS.md has one. Each example in the head of a crate stands word for word among the tests.
-With --tours the commands alone are run. PROGRAM is the built program: without it out/mmpkg, or else the one that the gate left in
-crates/mm_cli/out.
+Each line ' $ COMMAND' of README.md and docs/USING.md is run in turn, in a new folder with the examples, and must print
+the lines that stand below it; 'cat' of a file that is not there makes it of them. Each edit of must-fail/ and each
+mutant names a contract of docs/PROOFS.md; each name in backticks of any document that looks like one of the code stands
+in some crate, script or transcript. Each line of cases/README.md names what shows its behaviour: a transcript, a test,
+an edit, a mutant or a script that there is, or behind 'proved:' a name of docs/PROOFS.md. Each text of docs/NUMBERS.md
+is what the program explains by its number, whole, and each number of docs/FORMATS.md has one. Each example in the head
+of a crate stands word for word among the tests. With --tours the commands alone are run. PROGRAM is the built program:
+without it out/mmpkg, or else the one that the gate left in crates/mm_cli/out.
 """
 import os
 import pathlib
@@ -28,6 +29,9 @@ FORMATS, NUMBERS = "docs/FORMATS.md", "docs/NUMBERS.md"
 SHOWN = "cases/README.md"
 TESTED = "crates/mm_test_sessions/src/examples.rt"
 PORTS = "8090", "8080"
+# What the system names, and what stands behind a name that a tool makes: a number, or the word of a mark.
+ELSEWHERE = {"sched_autogroup_enabled"}
+NUMBERED = re.compile(r"(_\d+|_MARK\w*)+$")
 SPOKEN_OF = (".rt", ".antt", ".edit", ".py", ".sh", ".case", ".steps")
 
 
@@ -71,7 +75,14 @@ class Tour:
 
     def start(self, command):
         """Starts a command that goes on behind the next, and returns the first line that it prints."""
-        ran = subprocess.Popen("exec " + command.rstrip("& "), shell=True, cwd=self.folder, env=self.environment, stdout=subprocess.PIPE, text=True)
+        ran = subprocess.Popen(
+            "exec " + command.rstrip("& "),
+            shell=True,
+            cwd=self.folder,
+            env=self.environment,
+            stdout=subprocess.PIPE,
+            text=True,
+        )
         self.served.append(ran)
         return ran.stdout.readline()
 
@@ -122,7 +133,9 @@ def explained():
     """Returns by each heading of the page of numbers the text below it."""
     parts = re.split(r"^### (.*)$", text_of(NUMBERS), flags=re.MULTILINE)[1:]
     below = [re.split(r"^## ", it, maxsplit=1, flags=re.MULTILINE)[0] for it in parts[1::2]]
-    return {head: re.sub(r"^    ", "", it.strip("\n"), flags=re.MULTILINE) + "\n" for head, it in zip(parts[::2], below)}
+    return {
+        head: re.sub(r"^    ", "", it.strip("\n"), flags=re.MULTILINE) + "\n" for head, it in zip(parts[::2], below)
+    }
 
 
 def numbers_of_formats():
@@ -155,7 +168,7 @@ def explanation(program, head):
 def spoken_of():
     """Returns all words of the code, and the names of its files."""
     words = set()
-    for top in "crates", "scripts", "tools", "cases", "examples":
+    for top in "crates", "scripts", "tools", "cases", "examples", "bench":
         for below, folders, files in os.walk(top):
             folders[:] = [it for it in folders if it != "out"]
             words.update(folders)
@@ -166,40 +179,60 @@ def spoken_of():
     return words
 
 
-def wrong_bodies_are_named():
-    """Returns whether each edit is named in bold, and each mutant as it is, and whether there are any of both."""
-    text = text_of(PROMISES)
-    bold = set(re.findall(r"\*\*`(\w+)`\*\*", text))
-    plain = set(re.findall(r"(?<!\*)`(\w+)`(?!\*)", text))
-    answers = []
-    for kind, named in ("must-fail", bold), ("mutants", plain):
-        there = {path.stem for path in pathlib.Path("crates").glob(f"*/{kind}/*.edit")}
-        for it in sorted(there - named):
-            print(f"{PROMISES} does not name {it} of {kind}/" + (" in bold" if named is bold else ""))
-        answers.append(bool(there) and there <= named)
-    return all(answers)
+def wrong_bodies_name_contracts():
+    """Returns whether each edit and each mutant names, in its first line, a contract of the page of promises."""
+    promised = set(re.findall(r"\w+", " ".join(re.findall(r"`([^`]+)`", text_of(PROMISES)))))
+    there = [it for kind in ("must-fail", "mutants") for it in pathlib.Path("crates").glob(f"*/{kind}/*.edit")]
+    wrong = []
+    for it in sorted(there):
+        named = re.match(r"# contract: ([\w:]+)\n", text_of(it))
+        if not named or not set(named[1].split("::")) <= promised:
+            print(f"{it}: its first line names no contract of {PROMISES}: '# contract: NAME'")
+            wrong.append(it)
+    return bool(there) and not wrong
 
 
-def names_stand(path):
-    words = spoken_of()
-    named = {it for them in re.findall(r"`([^`\n]+)`", text_of(path)) for it in re.findall(r"[A-Za-z]\w*_\w+|Is[A-Z]\w+", them)}
-    missing = sorted(named - words)
+def names_stand(path, words):
+    """Returns whether each name of a document that looks like one of the code stands somewhere."""
+    named = {
+        it
+        for them in re.findall(r"`([^`\n]+)`", text_of(path))
+        for it in re.findall(r"[A-Za-z]\w*_\w+|Is[A-Z]\w+", them)
+    }
+    missing = sorted(it for it in named - ELSEWHERE if not {it, NUMBERED.sub("", it)} & words)
     for it in missing:
         print(f"{path} names {it}, which stands nowhere")
-    return not missing and bool(named)
+    return not missing
+
+
+def all_names_stand():
+    """Returns whether the names of all documents stand somewhere."""
+    words, documents = spoken_of(), [
+        "README.md",
+        "CHANGELOG.md",
+        *sorted(str(it) for it in pathlib.Path().glob("*/*.md") if it.parts[0] != "wip"),
+    ]
+    answers = [names_stand(it, words) for it in documents]
+    return all(answers) and PROMISES in documents
 
 
 def what_shows():
     """Returns the names of all transcripts, tests, edits, mutants and scripts."""
     here = pathlib.Path()
     files = [*here.glob("cases/*.case"), *here.glob("crates/*/must-fail/*.edit"), *here.glob("crates/*/mutants/*.edit")]
-    tests = [it for path in here.glob("crates/mm_test_*/src/*.rt") for it in re.findall(r"#\[test\]\s+fn (\w+)", path.read_text(encoding="utf-8"))]
+    tests = [
+        it
+        for path in here.glob("crates/mm_test_*/src/*.rt")
+        for it in re.findall(r"#\[test\]\s+fn (\w+)", path.read_text(encoding="utf-8"))
+    ]
     return {it.stem for it in files} | {it.name for it in here.glob("scripts/*/*.*")} | set(tests)
 
 
 def wrong_of(behaviour, cell, there, promised):
     """Yields what is wrong with a line of the table of behaviours."""
-    shown, proved = (re.findall(r"`([^`]+)`", it) for it in (cell.partition("proved:")[0], cell.partition("proved:")[2]))
+    shown, proved = (
+        re.findall(r"`([^`]+)`", it) for it in (cell.partition("proved:")[0], cell.partition("proved:")[2])
+    )
     if not shown and not proved:
         yield f"nothing shows: {behaviour}"
     for it in [*(set(shown) - there), *(set(proved) - promised)]:
@@ -221,7 +254,9 @@ def examples_are_tested():
     tested, answers = text_of(TESTED), []
     for path in sorted(pathlib.Path().glob("crates/*/src/lib.rt")):
         for block in re.findall(r"^//! ```rust\n(.*?)^//! ```$", text_of(path), re.MULTILINE | re.DOTALL):
-            answers.append("".join(line[4:].rstrip() + "\n" if len(line) > 4 else "\n" for line in block.splitlines()) in tested)
+            answers.append(
+                "".join(line[4:].rstrip() + "\n" if len(line) > 4 else "\n" for line in block.splitlines()) in tested
+            )
             if not answers[-1]:
                 print(f"{TESTED} does not have the example of {path}")
     return all(answers) and bool(answers)
@@ -237,7 +272,13 @@ def main():
     program = os.path.realpath(given[0])
     answers = [tour_fits(path, program) for path in TOURS]
     if "--tours" not in sys.argv:
-        answers += [numbers_are_explained(program), wrong_bodies_are_named(), *map(names_stand, (PROMISES, SHOWN)), behaviours_are_shown(), examples_are_tested()]
+        answers += [
+            numbers_are_explained(program),
+            wrong_bodies_name_contracts(),
+            all_names_stand(),
+            behaviours_are_shown(),
+            examples_are_tested(),
+        ]
     passed = sum(answers)
     print(f"{passed} passed, {len(answers) - passed} failed")
     return 0 if all(answers) else 1

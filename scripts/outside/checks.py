@@ -1,4 +1,5 @@
-"""What the checks of this folder share: commands with what they have to answer, and checks that are run by their names."""
+"""What the checks of this folder share: commands with what they have to answer, and checks that are run by their
+names."""
 
 import fcntl
 import os
@@ -18,11 +19,21 @@ LOCK = struct.Struct("hhqqi4x")
 
 
 def run(*command, status=0, given=b"", out=subprocess.PIPE):
-    """Runs a command, which has to end with the status, unless that is None, and answers what it printed and what it told on standard error."""
-    done = subprocess.run([str(word) for word in command], input=given, stdout=out, stderr=subprocess.PIPE, check=False,
-                          env={**os.environ, "MMPKG": PROGRAM})
+    """Runs a command, which has to end with the status, unless that is None, and answers what it printed and what it
+    told on standard error."""
+    done = subprocess.run(
+        [str(word) for word in command],
+        input=given,
+        stdout=out,
+        stderr=subprocess.PIPE,
+        check=False,
+        env={**os.environ, "MMPKG": PROGRAM},
+    )
     printed, told = (done.stdout or b"").decode(), done.stderr.decode()
-    assert status in (None, done.returncode), f"{command[:6]} ended with {done.returncode}, wanted {status}:\n{printed[-800:]}{told[-800:]}"
+    assert status in (
+        None,
+        done.returncode,
+    ), f"{command[:6]} ended with {done.returncode}, wanted {status}:\n{printed[-800:]}{told[-800:]}"
     return printed, told
 
 
@@ -69,7 +80,8 @@ def expect(found, wanted, what):
 
 
 def content_of(file):
-    """The bytes of a file, None where it is none. A journal that has its head alone has no content: each opening makes it anew."""
+    """The bytes of a file, None where it is none. A journal that has its head alone has no content: each opening makes
+    it anew."""
     data = file.read_bytes() if file.is_file() else None
     return b"" if data and file.name.endswith("-wal") and len(data) < 32 + 24 + 512 else data
 
@@ -80,7 +92,9 @@ def run_checks(of, functions, words, call):
     `call` calls a function, and answers for how many checks it counts (None: one). Returns how many passed and failed.
     """
     passed = failed = 0
-    for name, check in [(name[6:].replace("_", " "), it) for name, it in functions.items() if name.startswith("check_")]:
+    for name, check in [
+        (name[6:].replace("_", " "), it) for name, it in functions.items() if name.startswith("check_")
+    ]:
         if words and not any(word in name for word in words):
             continue
         began = time.monotonic()

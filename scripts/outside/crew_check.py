@@ -1,10 +1,11 @@
 #!/usr/bin/env python3
-"""Starts the crew's command, tools/crew.py, and looks at what it does and says: the page, the key, kills, Ctrl-C, what can't be opened.
+"""Starts the crew's command, tools/crew.py, and looks at what it does and says: the page, the key, kills, Ctrl-C,
+what can't be opened.
 
     MMPKG=out/mmpkg scripts/outside/crew_check.py [WORD ..]
 
-WORD picks the checks whose names have it. The last line is 'N passed, M failed'; the exit status is 1 where one failed, and 77 where Leaflet
-isn't there.
+WORD picks the checks whose names have it. The last line is 'N passed, M failed'; the exit status is 1 where one failed,
+and 77 where Leaflet isn't there.
 """
 
 import contextlib
@@ -47,7 +48,9 @@ class Started:
     def __init__(self, file, *words, port=0, tool=(TOOL,), **environment):
         self.file, self.port = file, port or free_port()
         command = [sys.executable, "-B", *tool, file, "--port", str(self.port), *words]
-        self.running = subprocess.Popen(command, stdout=subprocess.PIPE, stderr=subprocess.STDOUT, bufsize=0, env={**bare(), **environment})
+        self.running = subprocess.Popen(
+            command, stdout=subprocess.PIPE, stderr=subprocess.STDOUT, bufsize=0, env={**bare(), **environment}
+        )
         self.said = []
 
     def until(self, words):
@@ -116,7 +119,9 @@ def hear(listener, heard):
 
 def bare():
     """The environment without a screen."""
-    return {name: it for name, it in os.environ.items() if name not in ("DISPLAY", "WAYLAND_DISPLAY", "BROWSER")} | {"MMPKG": PROGRAM}
+    return {name: it for name, it in os.environ.items() if name not in ("DISPLAY", "WAYLAND_DISPLAY", "BROWSER")} | {
+        "MMPKG": PROGRAM
+    }
 
 
 @contextlib.contextmanager
@@ -167,15 +172,24 @@ def post(address, body):
 
 
 def check_a_day():
-    """The page comes in, the key is its owner's, Ctrl-C ends well; the next day has the same address, and nothing is brought in."""
+    """The page comes in, the key is its owner's, Ctrl-C ends well; the next day has the same address, and nothing is
+    brought in."""
     with folder_with() as file:
         first = Started(file)
         expect(first.until("opened"), f"{file} is opened: first it is checked as a whole.", "the first line")
         first.until("The page is brought in")
         address = first.address()
         key = pathlib.Path(f"{file}.key")
-        expect((stat.S_IMODE(key.stat().st_mode), address), (0o600, f"http://127.0.0.1:{first.port}/{key.read_text().strip()}"), "the key")
-        expect([status_of(f"{address}{it}") for it in ("/media/viewer/1", "/contents", "x")], ["200", "200", "404"], "what is asked")
+        expect(
+            (stat.S_IMODE(key.stat().st_mode), address),
+            (0o600, f"http://127.0.0.1:{first.port}/{key.read_text().strip()}"),
+            "the key",
+        )
+        expect(
+            [status_of(f"{address}{it}") for it in ("/media/viewer/1", "/contents", "x")],
+            ["200", "200", "404"],
+            "what is asked",
+        )
         expect(post(address, "row,spots,20,Spring,,1\n"), "1 ok\n", "a row")
         first.running.send_signal(signal.SIGINT)
         expect(first.wait()[-1], ENDED.format(file), "the last line")
@@ -209,8 +223,8 @@ def check_an_older_page():
 
 
 def check_strangers_in_the_page_s_table():
-    """A package whose page's table has another item, or a relation, isn't opened, also where the page stands in it as it
-    is made now: what that table has runs at the page's address."""
+    """A package whose page's table has another item, or a relation, isn't opened, also where the page stands in it as
+    it is made now: what that table has runs at the page's address."""
     strangers = {
         "media,viewer,9,text/html,3c\n": "viewer: its item 9 is text/html and no viewer's",
         "relation,shown,spots,viewer,media\n": "viewer: the relation shown relates viewer to spots",
@@ -233,7 +247,11 @@ def check_kills():
         address = first.address()
         for number in range(3):
             kill_desks(file)
-            expect(first.until("The program was killed"), "The program was killed (signal 9): it is started again.", "what is said")
+            expect(
+                first.until("The program was killed"),
+                "The program was killed (signal 9): it is started again.",
+                "what is said",
+            )
             first.until("The program runs again")
             expect(post(address, f"row,spots,{30 + number},Spring,,1\n"), "1 ok\n", "a row")
         first.running.kill()
@@ -248,7 +266,8 @@ def check_kills():
 
 
 def check_an_end_behind_a_kill():
-    """Ctrl-C behind a kill, before the program is started again: what the journal holds is told, and the next day has it."""
+    """Ctrl-C behind a kill, before the program is started again: what the journal holds is told, and the next day has
+    it."""
     with folder_with() as file:
         first = Started(file)
         address = first.address()
@@ -359,9 +378,17 @@ def check_the_key():
             key.write_bytes(text)
             key.chmod(mode)
             started = Started(file)
-            expect(started.until("so a new one"), f"{key}: {why}, so a new one is made, and the address is new.", "what is said")
+            expect(
+                started.until("so a new one"),
+                f"{key}: {why}, so a new one is made, and the address is new.",
+                "what is said",
+            )
             address = started.address()
-            found = stat.S_IMODE(key.stat().st_mode), "/a-key" in address, address.endswith(f"/{key.read_text().strip()}")
+            found = (
+                stat.S_IMODE(key.stat().st_mode),
+                "/a-key" in address,
+                address.endswith(f"/{key.read_text().strip()}"),
+            )
             expect(found, (0o600, False, True), "the key")
             started.running.send_signal(signal.SIGINT)
             started.wait()
@@ -385,7 +412,8 @@ def check_a_port_of_another_user():
 
 
 def check_the_address_without_the_key():
-    """The browser's command has an address without the key, which leads its user on, and no other; no process has the key in its words."""
+    """The browser's command has an address without the key, which leads its user on, and no other; no process has the
+    key in its words."""
     with folder_with() as file:
         seen = file.parent / "seen"
         # What %s stands for is the address that is opened.
@@ -394,9 +422,24 @@ def check_the_address_without_the_key():
         wait_until(seen.exists, "the browser's command", 30)
         lead = seen.read_text().strip()
         assert re.fullmatch(r"http://127\.0\.0\.1:[0-9]+/", lead), lead
-        expect(run("curl", "-s", "-o", "/dev/null", "-w", "%{redirect_url}", lead)[0], f"{address}/media/viewer/1#trip.mmpkg", "where it leads")
+        expect(
+            run("curl", "-s", "-o", "/dev/null", "-w", "%{redirect_url}", lead)[0],
+            f"{address}/media/viewer/1#trip.mmpkg",
+            "where it leads",
+        )
         if os.getuid() == 0:
-            other = ["setpriv", "--reuid=65534", "--clear-groups", "curl", "-s", "-o", "/dev/null", "-w", "%{http_code}", lead]
+            other = [
+                "setpriv",
+                "--reuid=65534",
+                "--clear-groups",
+                "curl",
+                "-s",
+                "-o",
+                "/dev/null",
+                "-w",
+                "%{http_code}",
+                lead,
+            ]
             expect(run(*other)[0], "403", "what another user gets")
         key = address.rpartition("/")[2].encode()
         for it in pathlib.Path("/proc").glob("[0-9]*/cmdline"):
@@ -420,7 +463,9 @@ def check_what_can_not_be_opened():
                                     ([file, "--table", "gpkg_x"], "is no name of a package", 2)):  # fmt: skip
             _, told = run(sys.executable, "-B", TOOL, *words, status=status)
             assert line in told and "Traceback" not in told, told
-        served = subprocess.Popen([PROGRAM, "serve", file, "--port", str(free_port()), "--count", "9"], stdout=subprocess.PIPE)
+        served = subprocess.Popen(
+            [PROGRAM, "serve", file, "--port", str(free_port()), "--count", "9"], stdout=subprocess.PIPE
+        )
         served.stdout.readline()
         said = Started(file).wait(3)
         served.kill()
@@ -507,7 +552,8 @@ def has_gdal():
 
 
 def check_maps_behind_the_work():
-    """Maps that are named are drawn for the page as long as the command runs, however it ends, and the next day without being named; until they are forgotten."""
+    """Maps that are named are drawn for the page as long as the command runs, however it ends, and the next day without
+    being named; until they are forgotten."""
     if not has_gdal():
         return
     with folder_with() as file:
@@ -515,12 +561,20 @@ def check_maps_behind_the_work():
         before = {it: hashlib.sha256(it.read_bytes()).hexdigest() for it in (ground, notes)}
         first = Started(file, "--map", ground, notes)
         kept = pathlib.Path(f"{file}.maps")
-        expect(first.until("Behind"), f"Behind the work: ground.tif, notes.txt ({kept} keeps which; --no-maps forgets them)", "the words")
-        assert first.until("not shown").startswith("Behind the work, not shown: notes.txt: GDAL opens no map of it"), first.said
+        expect(
+            first.until("Behind"),
+            f"Behind the work: ground.tif, notes.txt ({kept} keeps which; --no-maps forgets them)",
+            "the words",
+        )
+        assert first.until("not shown").startswith(
+            "Behind the work, not shown: notes.txt: GDAL opens no map of it"
+        ), first.said
         maps = maps_told(first)
         expect(json.loads(run("curl", "-s", f"{maps}maps?system=25832")[0])["maps"][0]["kind"], "picture", "the map")
         expect(json.loads(kept.read_text()), {"maps": ["ground.tif", "notes.txt"]}, "what is kept")
-        assert urllib.parse.urlsplit(maps).path.strip("/").encode() not in words_of_all_programs(), "the token stands in a program's words"
+        assert (
+            urllib.parse.urlsplit(maps).path.strip("/").encode() not in words_of_all_programs()
+        ), "the token stands in a program's words"
         first.running.send_signal(signal.SIGINT)
         expect((first.wait()[-1], is_there(maps)), (ENDED.format(file), False), "the end")
         expect(content_of(file)[:16], b"SQLite format 3\0", "the package")
@@ -541,7 +595,11 @@ def check_maps_behind_the_work():
         fourth.running.send_signal(signal.SIGINT)
         fourth.wait()
         expect({it: hashlib.sha256(it.read_bytes()).hexdigest() for it in before}, before, "the maps' files")
-        expect(sorted(it.name for it in file.parent.iterdir() if "ground" in it.name or "notes" in it.name), ["ground.asc", "ground.tif", "notes.txt"], "files beside them")
+        expect(
+            sorted(it.name for it in file.parent.iterdir() if "ground" in it.name or "notes" in it.name),
+            ["ground.asc", "ground.tif", "notes.txt"],
+            "files beside them",
+        )
 
 
 def check_which_maps_are_kept():
@@ -554,7 +612,11 @@ def check_which_maps_are_kept():
         for text in ("[1]", '{"maps": [1]}', "no list", '{"maps": "ground.tif"}'):
             kept.write_text(text)
             started = Started(file, "--map", file.parent / "ground.tif")
-            expect(started.until("no list of maps"), f"{kept}: is no list of maps of these tools, and stays as it is: move it away", "the words")
+            expect(
+                started.until("no list of maps"),
+                f"{kept}: is no list of maps of these tools, and stays as it is: move it away",
+                "the words",
+            )
             assert is_there(maps_told(started)), "the map that is named"
             started.running.send_signal(signal.SIGINT)
             started.wait()
@@ -566,7 +628,11 @@ def check_which_maps_are_kept():
             (file.parent / "ground.tif").unlink()
             started = Started(moved / "trip.mmpkg")
             maps = maps_told(started)
-            expect(json.loads(run("curl", "-s", f"{maps}maps?system=25832")[0])["maps"][0]["kind"], "picture", "the map of a folder that was copied")
+            expect(
+                json.loads(run("curl", "-s", f"{maps}maps?system=25832")[0])["maps"][0]["kind"],
+                "picture",
+                "the map of a folder that was copied",
+            )
             started.running.send_signal(signal.SIGINT)
             started.wait()
 
@@ -576,12 +642,60 @@ def check_maps_without_gdal():
     with folder_with() as file:
         (file.parent / "ground.tif").write_bytes(b"x")
         started = Started(file, "--map", file.parent / "ground.tif", tool=WITHOUT_GDAL)
-        expect(started.until("No map"), "No map is shown behind the work: GDAL's modules for Python aren't there: apt-get install python3-gdal", "the words")
+        expect(
+            started.until("No map"),
+            "No map is shown behind the work: GDAL's modules for Python aren't there: apt-get install python3-gdal",
+            "the words",
+        )
         expect(status_of(f"{started.address()}/contents"), "200", "the package")
         assert not any("#" in it for it in started.said), started.said
         started.running.send_signal(signal.SIGINT)
         expect(started.wait()[-1], ENDED.format(file), "the last line")
         expect(json.loads(pathlib.Path(f"{file}.maps").read_text()), {"maps": ["ground.tif"]}, "what is kept")
+
+
+LV95 = """srs,2056,CH1903+ / LV95,EPSG,2056,LV95,
+pyramid,bern,Bern,2056,2599500000000,1199488000000,2600524000000,1200512000000,two
+matrix,bern,0,2,2,64,64,8000000,8000000
+table,spots,attributes,Spots
+"""
+
+
+@contextlib.contextmanager
+def folder_in_lv95():
+    """A folder with a package whose only map is in a system that the page can't reckon."""
+    with folder_with(records=False) as file:
+        mmpkg("run", file, "--at", 0, given=LV95.encode())
+        yield file
+
+
+def check_systems_beyond_the_page():
+    """Where a package has a map in a system that the page can't reckon the program of maps runs without being asked
+    for, brings places over as long as the command runs, and no map is kept."""
+    if not has_gdal():
+        return
+    with folder_in_lv95() as file:
+        started = Started(file)
+        maps = maps_told(started)
+        bern = '{"epsg": 2056, "places": [[7.438632495, 46.951082877]]}'  # by swisstopo, E 2,600,000 N 1,200,000
+        told = json.loads(run("curl", "-s", "-d", bern, f"{maps}places")[0])
+        ((east, north),) = told["places"]
+        assert abs(east - 2_600_000) < 0.05 and abs(north - 1_200_000) < 0.05 and told["worth"] == 1, told
+        assert not any("ehind the work" in it for it in started.said), started.said
+        started.running.send_signal(signal.SIGINT)
+        expect((started.wait()[-1], is_there(maps)), (ENDED.format(file), False), "the end")
+        expect(pathlib.Path(f"{file}.maps").exists(), False, "a list of maps")
+
+
+def check_systems_without_gdal():
+    """Without GDAL one line says what to install for such a system, and the page opens."""
+    with folder_in_lv95() as file:
+        started = Started(file, tool=WITHOUT_GDAL)
+        words = "The device's place isn't told in the package's system: GDAL's modules for Python aren't there: "
+        expect(started.until("isn't told"), f"{words}apt-get install python3-gdal", "the words")
+        expect(status_of(f"{started.address()}/contents"), "200", "the package")
+        started.running.send_signal(signal.SIGINT)
+        expect(started.wait()[-1], ENDED.format(file), "the last line")
 
 
 def check_without_a_name():
@@ -595,8 +709,11 @@ def check_without_a_name():
         running.communicate(timeout=AT_ONCE)
         (file.parent / "other.mmpkg").touch()
         done = subprocess.run(command, cwd=file.parent, capture_output=True, env=bare(), check=False)
-        expect((done.returncode, done.stderr.decode().splitlines()[0]),
-               (2, "which package? other.mmpkg, trip.mmpkg: name one, as in 'crew.py other.mmpkg'"), "several")
+        expect(
+            (done.returncode, done.stderr.decode().splitlines()[0]),
+            (2, "which package? other.mmpkg, trip.mmpkg: name one, as in 'crew.py other.mmpkg'"),
+            "several",
+        )
 
 
 if __name__ == "__main__":

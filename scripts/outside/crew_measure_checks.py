@@ -1,7 +1,7 @@
 """What is measured at the crew's page. Its checks are run by scripts/outside/crew_page_check.py.
 
-Ways and areas by taps, keys and fingers; a place that is staked out; and how all of this, with files and the report, fits
-a screen. Lengths and areas are by hand, places of the device by gdaltransform.
+Ways and areas by taps, keys and fingers; a place that is staked out; and how all of this, with files and the report,
+fits a screen. Lengths and areas are by hand, places of the device by gdaltransform.
 """
 
 import re
@@ -11,7 +11,8 @@ from crew_page_check import CONTRAST, LOOK_AS, NAMES, STONES, expect_quiet, focu
 
 
 def check_ways_and_areas(scene):
-    """Taps on the map measure a way and an area, a mark's at its own place; the last point goes; it ends, and nothing was written."""
+    """Taps on the map measure a way and an area, a mark's at its own place; the last point goes; it ends, and nothing
+    was written."""
     seat, crew = scene.begin()
     crew.press("measure")
     expect(crew.text("length"), "Tap the points of a way on the map.", "at first")
@@ -25,7 +26,9 @@ def check_ways_and_areas(scene):
     scene.screenshot(crew, "measure")
     crew.tap(500_500, 5_600_600)
     expect(crew.value("measured.points.length"), 4, "points, with one of the free map")
-    near = crew.value("Math.hypot(measured.points[3][0] - 500500, measured.points[3][1] - 5600600) / metresAt(shown, map.getZoom())")
+    near = crew.value(
+        "Math.hypot(measured.points[3][0] - 500500, measured.points[3][1] - 5600600) / metresAt(shown, map.getZoom())"
+    )
     assert near < 1.5, f"a tap is {near} pixels off"
     crew.press("undo")
     expect(crew.text("length"), words, "behind 'Undo'")
@@ -46,7 +49,8 @@ def check_ways_and_areas(scene):
 
 
 def check_measuring_beside_a_form_and_other_maps(scene):
-    """A form's next tap is its place, while it measures too; a map of another system ends it; so it does by keys and fingers."""
+    """A form's next tap is its place, while it measures too; a map of another system ends it; so it does by keys and
+    fingers."""
     _, crew = scene.begin(width=390, height=844, touch=True)
     touch(crew, "measure")
     crew.page.wait("isMeasuring()")
@@ -59,7 +63,9 @@ def check_measuring_beside_a_form_and_other_maps(scene):
     crew.page.press("Escape")
     expect(crew.value("[isMeasuring(), form !== null]"), [True, True], "Escape in the form")
     for _ in range(2):
-        x, y = crew.value("(box => [box.x + box.width / 2 + 20 * measured.points.length, box.y + 60])(byId('map').getBoundingClientRect())")
+        x, y = crew.value(
+            "(box => [box.x + box.width / 2 + 20 * measured.points.length, box.y + 60])(byId('map').getBoundingClientRect())"
+        )
         crew.page.touch([(x, y)])
         crew.page.wait("measured.points.length > 0")
     crew.page.wait("measured.points.length === 2")
@@ -100,7 +106,8 @@ DEVICE = """(() => {
 
 
 def check_a_place_that_is_staked_out(scene):
-    """East, north and up from the device to the place, and a sound and a shake within a metre, unless it is to be quiet."""
+    """East, north and up from the device to the place, and a sound and a shake within a metre, unless it is to be
+    quiet."""
     _, crew = scene.begin()
     page = crew.page
     crew.value(DEVICE)
@@ -111,14 +118,16 @@ def check_a_place_that_is_staked_out(scene):
     # By gdaltransform 500340 E, 5600295 N; the stone is at 500350, 5600300.
     crew.value("deviceTells(9.00479959646962, 50.5545852768122, { altitude: 180, altitudeAccuracy: 2.4 }); 0")
     expect(crew.text("offset"), "10.00 m east, 5.00 m north, 1.50 m up (within 3 m)", "the offset")
-    expect(crew.text("way"), "11 m, 63° (NE), within 1 m", "the way")
+    expect(crew.text("way"), "11 m, 63° (NE), within 0.02 m", "the way")
     expect(crew.value("[shakes, tones, byId('quiet').hidden]"), [0, 0, False], "signals, ten metres off")
     scene.screenshot(crew, "stake")
     # 500349.4 E, 5600299.5 N.
     near = "deviceTells(9.00493229541794, 50.5546257406264, { altitude: 181.75 }); "
     crew.value(f"{near} {near} 0")
     expect(crew.text("offset"), "Here: 0.60 m east, 0.50 m north, 0.25 m down", "the offset, within a metre")
-    expect(crew.value("[shakes, tones, byId('offset').className]"), [1, 1, "led reached"], "signals, of two places at once")
+    expect(
+        crew.value("[shakes, tones, byId('offset').className]"), [1, 1, "led reached"], "signals, of two places at once"
+    )
     scene.screenshot(crew, "stake-near")
     crew.press("quiet")
     page.wait("performance.now() > signalled + SIGNALS")
@@ -134,7 +143,8 @@ def check_a_place_that_is_staked_out(scene):
 
 
 def check_what_is_new_on_small_screens_and_by_night(scene):
-    """Measuring, files and the report fit a phone and a tablet, are large enough for a finger, and stand out, by night too."""
+    """Measuring, files and the report fit a phone and a tablet, are large enough for a finger, and stand out, by night
+    too."""
     inside = "((it, box) => it.top >= box.top && it.bottom <= box.bottom)(byId('{}').getBoundingClientRect(), byId('map').getBoundingClientRect())"
     for wide, high in ((390, 844), (320, 568), (740, 360), (1280, 800)):
         _, crew = scene.begin(width=wide, height=high, touch=wide < 1000)
@@ -142,7 +152,9 @@ def check_what_is_new_on_small_screens_and_by_night(scene):
             if night:
                 assert crew.value(f"{LOOK_AS}(['scheme: dark'])"), "the page has no rules for the night"
             name = f"{wide}{'-night' if night else ''}"
-            crew.value("measure(true), measureAt(500070, 5600060), measureAt(500350, 5600300), measureAt(500350, 5600060), byId('out').open = true, 0")
+            crew.value(
+                "measure(true), measureAt(500070, 5600060), measureAt(500350, 5600300), measureAt(500350, 5600060), byId('out').open = true, 0"
+            )
             crew.value("byId('filed').textContent = '12 rows are in spots.csv.'; 0")
             look(scene, crew, "document", f"measure-{name}")
             for element in ("measure", "measured"):

@@ -1,7 +1,7 @@
 """What leaves the crew's page. Its checks are run by scripts/outside/crew_page_check.py.
 
-What is listed as files, beside what the office's export and GDAL read; and a report of the day, also on paper. Degrees are
-by gdaltransform.
+What is listed as files, beside what the office's export and GDAL read; and a report of the day, also on paper. Degrees
+are by gdaltransform.
 """
 
 import base64
@@ -53,7 +53,8 @@ def cells_of(file):
 
 
 def check_what_is_listed_as_files(scene):
-    """What is listed is a table, GeoJSON and waypoints, as the office's export and GDAL have it; what waits is marked."""
+    """What is listed is a table, GeoJSON and waypoints, as the office's export and GDAL have it; what waits is
+    marked."""
     seat, crew = begin_with_more(scene)
     seat.kill()
     crew.new(title="Waits, é", note="kind=ash", place=(500_400, 5_600_500))
@@ -65,22 +66,40 @@ def check_what_is_listed_as_files(scene):
     scene.screenshot(crew, "files")
     for kind, file in files.items():
         assert re.fullmatch(rf"spots-[0-9]{{4}}-[0-9]{{2}}-[0-9]{{2}}\.{kind}", file.name), file.name
-    expect(crew.text("filed").split(".", 1)[1].split(". "),
-           ["gpx", "Left out, for want of degrees: 2", "Not in the package yet, and marked so: 1."], "what is said of the waypoints")
+    expect(
+        crew.text("filed").split(".", 1)[1].split(". "),
+        ["gpx", "Left out, for want of degrees: 2", "Not in the package yet, and marked so: 1."],
+        "what is said of the waypoints",
+    )
     rows = {it["id"]: it for it in cells_of(files["csv"])}
     by_office(scene, seat, rows)
-    expect([rows[it]["title"] for it in ("21", "22", "23")], ["Oak 21", "'=1+1", "Elm 23"], "titles, none of them a formula")
+    expect(
+        [rows[it]["title"] for it in ("21", "22", "23")],
+        ["Oak 21", "'=1+1", "Elm 23"],
+        "titles, none of them a formula",
+    )
     waits = [it for it in rows.values() if it["state"] != "in the package"]
-    expect([(it["title"], it["state"], it["kind"], it["east"]) for it in waits], [("Waits, é", "to send", "ash", "500400.0")], "what waits")
+    expect(
+        [(it["title"], it["state"], it["kind"], it["east"]) for it in waits],
+        [("Waits, é", "to send", "ash", "500400.0")],
+        "what waits",
+    )
     features = json.loads(files["geojson"].read_text())
     expect(len(features["features"]), STONES + 4, "features")
-    assert "Not in the package yet: 1 row" in features["description"] and "=1+1 at east 12, north 34.5 of system 7" in features["description"]
+    assert (
+        "Not in the package yet: 1 row" in features["description"]
+        and "=1+1 at east 12, north 34.5 of system 7" in features["description"]
+    )
     by_number = {it["id"]: it for it in features["features"]}
     expect(by_number[21]["geometry"]["coordinates"], list(DEGREES_21), "a place in degrees")
     expect((by_number[22]["geometry"], by_number[22]["properties"]["east"]), (None, 12), "a place in a plan's metres")
     points = xml.etree.ElementTree.parse(files["gpx"]).getroot().findall(f"{GPX}wpt")
     told = {it.findtext(f"{GPX}name"): it for it in points}
-    expect((len(points), told["Oak 21"].get("lon"), told["Oak 21"].get("lat")), (STONES + 2, *map(str, DEGREES_21)), "waypoints")
+    expect(
+        (len(points), told["Oak 21"].get("lon"), told["Oak 21"].get("lat")),
+        (STONES + 2, *map(str, DEGREES_21)),
+        "waypoints",
+    )
     expect(told["Waits, é"].findtext(f"{GPX}cmt"), "to send", "a waypoint that waits")
     by_gdal(files)
     crew.write("search", "kind oak")
@@ -133,18 +152,27 @@ TITLES = "[...byId('reported').querySelectorAll('h2')].map(it => it.innerText)"
 
 
 def check_a_report_of_the_day(scene):
-    """It has the rows of the day with their photos, else all that are listed, prints alone, and asks nothing of others."""
+    """It has the rows of the day with their photos, else all that are listed, prints alone, and asks nothing of
+    others."""
     seat, crew = scene.begin()
     page = crew.page
     crew.value("byId('out').open = true, window.prints = 0, window.print = () => { prints += 1; }, 0")
     crew.write("search", "stone 1")
     crew.press("reporter")
     page.wait("byId('made').innerText === '0 photos.'")
-    expect((crew.value("byId('scope').value"), crew.value(TITLES)), ("listed", ["Stone 12", "Stone 11", "Stone 10", "Stone 1"]), "a day without work")
+    expect(
+        (crew.value("byId('scope').value"), crew.value(TITLES)),
+        ("listed", ["Stone 12", "Stone 11", "Stone 10", "Stone 1"]),
+        "a day without work",
+    )
     page.press("Escape")
-    expect(crew.value("[byId('report').hidden, document.activeElement.id]"), [True, "reporter"], "the report behind Escape")
+    expect(
+        crew.value("[byId('report').hidden, document.activeElement.id]"), [True, "reporter"], "the report behind Escape"
+    )
     crew.write("search", "")
-    crew.new(title="Spring", note="under the oak kind=spring", amount=12, place=(500_400, 5_600_500), photos=[scene.photo])
+    crew.new(
+        title="Spring", note="under the oak kind=spring", amount=12, place=(500_400, 5_600_500), photos=[scene.photo]
+    )
     crew.change("Stone 7", amount=70)
     crew.write("search", "")
     crew.wait_until_it_stands()
@@ -154,12 +182,17 @@ def check_a_report_of_the_day(scene):
     crew.press("reporter")
     page.wait("byId('made').innerText === '2 photos.'")
     expect((crew.value("byId('scope').value"), crew.value(TITLES)), ("today", ["Spring", "Stone 7"]), "the day's rows")
-    words = crew.value("[...byId('reported').firstElementChild.querySelectorAll('p')].filter(it => !it.hidden).map(it => it.innerText)")
+    words = crew.value(
+        "[...byId('reported').firstElementChild.querySelectorAll('p')].filter(it => !it.hidden).map(it => it.innerText)"
+    )
     place = "east 500400.0, north 5600500.0 of system 25832 · 50.556429° N, 9.005647° E"
     expect(words, [place, "under the oak", "kind: spring", "amount 12"], "what the report tells of a row")
-    pictures = crew.value("[...byId('reported').querySelectorAll('img')].map(it => [it.naturalWidth, it.alt.split(' ')[0]])")
+    pictures = crew.value(
+        "[...byId('reported').querySelectorAll('img')].map(it => [it.naturalWidth, it.alt.split(' ')[0]])"
+    )
     expect(pictures, [[300, "photos"], [160, "photos"]], "its photos")
-    expect([it for it in page.asked[asked:] if not it.startswith((seat.address, "blob:"))], [], "what it asked of others")
+    others = [it for it in page.asked[asked:] if not it.startswith((seat.address, "blob:", "data:"))]
+    expect(others, [], "what it asked of others")
     expect(crew.value("document.querySelector('main').inert"), True, "what lies below is out of reach")
     scene.screenshot(crew, "report")
     crew.press("print")

@@ -16,6 +16,8 @@ STANDS = "all is in the package"
 AT_ONCE = 60
 HELD = []
 # The middle of an element, which is scrolled into view.
+# Waits until what is kept of a form is on the disk, where the page keeps something.
+IS_KEPT = "(async () => { try { await done(drafts('relaxed').count()); } catch { } })()"
 MIDDLE = """it => {
   it.scrollIntoView({ block: 'center' });
   const { x, y, width, height } = it.getBoundingClientRect();
@@ -71,7 +73,9 @@ class Seat:
     def start(self, key=None):
         self.key = key or self.key
         words = ["desk", self.file, "--port", str(self.port), "--count", "1000000", "--page", "viewer"]
-        self.program = subprocess.Popen([PROGRAM, *words], stdout=subprocess.PIPE, env=os.environ | {"MMPKG_KEY": self.key})
+        self.program = subprocess.Popen(
+            [PROGRAM, *words], stdout=subprocess.PIPE, env=os.environ | {"MMPKG_KEY": self.key}
+        )
         ready, _, _ = select.select([self.program.stdout], [], [], AT_ONCE)
         said = self.program.stdout.readline().decode() if ready else ""
         assert said == f"desk {self.address}/media/viewer/1\n", f"the desk says {said!r}"
@@ -99,7 +103,8 @@ class Crew:
         self.page.wait(f"!window.wasBefore && {there}")
 
     def reload(self):
-        self.value("window.wasBefore = true")
+        """Loads the page again, once what is kept of a form is on the disk: a page that goes takes back what isn't."""
+        self.value(f"window.wasBefore = true, {IS_KEPT}")
         self.page.reload()
         self.wait_for_rows()
 
@@ -163,7 +168,9 @@ class Crew:
         self.press(f"({mine})")
         # Photos that come move what is below them.
         self.page.wait("form !== null && byId('thumbnails').ariaBusy === 'false'")
-        assert self.value("form.row.title") == title, f"the form of {self.value('form.row.title')} opened, not that of {title}"
+        assert (
+            self.value("form.row.title") == title
+        ), f"the form of {self.value('form.row.title')} opened, not that of {title}"
 
     def change(self, row, **what):
         self.open(row)

@@ -1,11 +1,13 @@
 #!/usr/bin/env python3
-"""Works at the page of 'mmpkg desk' as a crew does, in a browser without a window. Called by scripts/outside/crew_page.sh.
+"""Works at the page of 'mmpkg desk' as a crew does, in a browser without a window. Called by
+scripts/outside/crew_page.sh.
 
     MMPKG=out/mmpkg scripts/outside/crew_page_check.py [--browser chromium | firefox-esr] [--keep FOLDER] [WORD ..]
 
-What a form saves has to stand in the package, wholly and once, by what the program and SQLite tell of it; also where the program or the
-answer is cut at each line, the browser ends, or another tab works too. --keep keeps screenshots in a folder; WORD picks the checks whose
-names have it. The last line is 'N passed, M failed'; the exit status is 1 where one failed.
+What a form saves has to stand in the package, wholly and once, by what the program and SQLite tell of it; also where
+the program or the answer is cut at each line, the browser ends, or another tab works too. --keep keeps screenshots in a
+folder; WORD picks the checks whose names have it. The last line is 'N passed, M failed'; the exit status is 1 where one
+failed.
 """
 
 import argparse
@@ -34,11 +36,13 @@ from checks import end, expect, mmpkg, run_checks
 from crew_page import KEY, MIDDLE, STANDS, Crew, Seat, free_port, wait_until
 from viewer_package import PYRAMIDS, Pyramid, picture, new_package, record, take_in
 
-UTM = ('PROJCS["ETRS89 / UTM zone 32N",GEOGCS["ETRS89",DATUM["European_Terrestrial_Reference_System_1989",'
-       'SPHEROID["GRS 1980",6378137,298.257222101]],PRIMEM["Greenwich",0],UNIT["degree",0.0174532925199433]],'
-       'PROJECTION["Transverse_Mercator"],PARAMETER["latitude_of_origin",0],PARAMETER["central_meridian",9],'
-       'PARAMETER["scale_factor",0.9996],PARAMETER["false_easting",500000],PARAMETER["false_northing",0],'
-       'UNIT["metre",1]]')
+UTM = (
+    'PROJCS["ETRS89 / UTM zone 32N",GEOGCS["ETRS89",DATUM["European_Terrestrial_Reference_System_1989",'
+    'SPHEROID["GRS 1980",6378137,298.257222101]],PRIMEM["Greenwich",0],UNIT["degree",0.0174532925199433]],'
+    'PROJECTION["Transverse_Mercator"],PARAMETER["latitude_of_origin",0],PARAMETER["central_meridian",9],'
+    'PARAMETER["scale_factor",0.9996],PARAMETER["false_easting",500000],PARAMETER["false_northing",0],'
+    'UNIT["metre",1]]'
+)
 BASE = Pyramid("base", "Base map", 25832, 500_000, 5_601_024, "two", PYRAMIDS[0].zooms[:3])
 PLAN = Pyramid("plan", "Plan", 7, 0, 128, "two", PYRAMIDS[0].zooms[2:3])
 STONES = 12
@@ -46,13 +50,25 @@ STONES = 12
 
 def content():
     """A map in UTM, one in a plan's system, rows at places, owners of rows, and photos."""
-    lines = [["srs", 25832, "ETRS89 / UTM zone 32N", "EPSG", 25832, UTM, ""], ["srs", 7, "plan", "NONE", 7, "metres of a plan", ""]]
-    tables = [["table", "owners", "attributes", "Owners"], ["table", "spots", "attributes", "Spots"], ["table", "photos", "media", "Photos"],
-              ["relation", "spots_photos", "spots", "photos", "media"], ["relation", "owners_spots", "owners", "spots", "simple_attributes"]]
+    lines = [
+        ["srs", 25832, "ETRS89 / UTM zone 32N", "EPSG", 25832, UTM, ""],
+        ["srs", 7, "plan", "NONE", 7, "metres of a plan", ""],
+    ]
+    tables = [
+        ["table", "owners", "attributes", "Owners"],
+        ["table", "spots", "attributes", "Spots"],
+        ["table", "photos", "media", "Photos"],
+        ["relation", "spots_photos", "spots", "photos", "media"],
+        ["relation", "owners_spots", "owners", "spots", "simple_attributes"],
+    ]
     places = {it: f"@25832:{500_000 + 70 * it}/{5_600_000 + 60 * it}" for it in range(1, STONES + 1)}
     rows = [["row", "spots", it, f"Stone {it}", f"{places[it]} from the books", it] for it in places]
-    photo = [["media", "photos", 7, "image/png", picture(160, 120, (200, 60, 40)).hex()], ["map", "spots_photos", 7, 7],
-             ["row", "owners", 1, "Ada", "", 0], ["map", "owners_spots", 1, 9]]
+    photo = [
+        ["media", "photos", 7, "image/png", picture(160, 120, (200, 60, 40)).hex()],
+        ["map", "spots_photos", 7, 7],
+        ["row", "owners", 1, "Ada", "", 0],
+        ["map", "owners_spots", 1, 9],
+    ]
     return "".join([*map(record, lines), BASE.records(), PLAN.records(), *map(record, [*tables, *rows, *photo])])
 
 
@@ -113,13 +129,18 @@ def rows_of(seat, table="spots"):
     seat.kill()
     expect(mmpkg("check", seat.file), "package ok\n", "the check")
     with contextlib.closing(sqlite3.connect(f"file:{seat.file}?mode=ro&immutable=1", uri=True)) as opened:
-        return {row[0]: row[1:] for row in opened.execute("SELECT id, title, note, amount FROM mm_rows WHERE table_name = ?", (table,))}
+        return {
+            row[0]: row[1:]
+            for row in opened.execute("SELECT id, title, note, amount FROM mm_rows WHERE table_name = ?", (table,))
+        }
 
 
 def related_of(seat, row):
     """The sizes and types of the photos that a row is related to."""
-    query = ("SELECT content_type, length(data) FROM mm_map JOIN mm_media m ON m.table_name = 'photos' AND m.id = related_id "
-             "JOIN mm_blobs b ON b.id = m.blob WHERE mapping = 'spots_photos' AND base_id = ?")
+    query = (
+        "SELECT content_type, length(data) FROM mm_map JOIN mm_media m ON m.table_name = 'photos' AND m.id = related_id "
+        "JOIN mm_blobs b ON b.id = m.blob WHERE mapping = 'spots_photos' AND base_id = ?"
+    )
     with contextlib.closing(sqlite3.connect(f"file:{seat.file}?mode=ro&immutable=1", uri=True)) as opened:
         return opened.execute(query, (row,)).fetchall()
 
@@ -143,14 +164,18 @@ def expect_quiet(crew, *allowed):
 
 
 def check_a_row_with_a_photo(scene):
-    """A new row by a tap, with a note, an amount and a photo, stands with all of it, and is seen on the map and in its form."""
+    """A new row by a tap, with a note, an amount and a photo, stands with all of it, and is seen on the map and in its
+    form."""
     seat, crew = scene.begin()
     crew.new(title='Spring, "cold"', note="under the oak", amount=12, place=(500_400, 5_600_500), photos=[scene.photo])
     crew.wait_until_it_stands()
     crew.open('Spring, "cold"')
     crew.page.wait("byId('thumbnails').querySelector('img')?.naturalWidth === 300")
-    expect([crew.value(f"byId('{it}').value") for it in ("title", "note", "amount", "east", "north")],
-           ['Spring, "cold"', "under the oak", "12", "500400.0", "5600500.0"], "the form")
+    expect(
+        [crew.value(f"byId('{it}').value") for it in ("title", "note", "amount", "east", "north")],
+        ['Spring, "cold"', "under the oak", "12", "500400.0", "5600500.0"],
+        "the form",
+    )
     scene.screenshot(crew, "row")
     expect_quiet(crew)
     number, rest = by_title(rows_of(seat), 'Spring, "cold"')
@@ -182,20 +207,30 @@ def check_changes(scene):
 
 
 def check_a_photo_on_its_way(scene):
-    """A row that is saved while its photos are still being made smaller has them; of what is no picture that is told, and the form stays."""
+    """A row that is saved while its photos are still being made smaller has them; of what is no picture that is told,
+    and the form stays."""
     seat, crew = scene.begin()
-    slowly = "async file => { await new Promise(good => setTimeout(good, 500)); return atOnce(file); }"
-    crew.value(f"window.atOnce = createImageBitmap; window.createImageBitmap = {slowly}; 0")
+    shut = "window.gate = new Promise(good => { window.opens = good; }), 0"
+    crew.value(
+        f"window.atOnce = createImageBitmap, window.createImageBitmap = async file => {{ await gate; return atOnce(file); }}, {shut}"
+    )
     crew.press("fresh")
     crew.fill(title="Quick", place=(500_400, 5_600_500))
     crew.page.choose_files("byId('pictures')", [scene.photo, scene.photo])
+    waits = "byId('told').innerText === 'Waiting for the photo ..'"
     crew.press("save")
-    expect(crew.text("told"), "Waiting for the photo ..", "what is said")
+    crew.page.wait(waits)
+    crew.value("opens(), 0")
     crew.page.wait("byId('edit').hidden")
     crew.open("Stone 4")
+    crew.value(shut)
     crew.page.choose_files("byId('pictures')", [scene.folder / "page" / "kit.csv"])
     crew.press("save")
-    crew.page.wait("byId('told').innerText === 'kit.csv is no picture that this browser draws.'")
+    crew.page.wait(waits)
+    crew.value("opens(), 0")
+    crew.page.wait(
+        "byId('told').innerText === 'kit.csv is no picture that this browser draws, no PDF, no sound and no line.'"
+    )
     expect(crew.value("form.row.title"), "Stone 4", "the form")
     crew.wait_until_it_stands()
     expect_quiet(crew)
@@ -206,7 +241,9 @@ def check_a_photo_on_its_way(scene):
 def check_a_form_that_opens_while_another_is_kept(scene):
     """A slow disk keeps an act behind the next form's opening: that form stays open, and both are kept."""
     seat, crew = scene.begin()
-    crew.value("window.atOnce = keep; keep = async work => { await atOnce(work); await new Promise(good => setTimeout(good, 1000)); }; 0")
+    crew.value(
+        "window.atOnce = keep; keep = async work => { await atOnce(work); await new Promise(good => setTimeout(good, 1000)); }; 0"
+    )
     crew.open("Stone 4")
     for _ in range(2):
         crew.press("remove")
@@ -236,7 +273,9 @@ def check_a_row_is_removed(scene):
     expect_quiet(crew)
     rows = rows_of(seat)
     expect((7 in rows, len(rows)), (False, STONES - 1), "the rows")
-    left = count_of(seat, "mm_map WHERE mapping = 'spots_photos'"), count_of(seat, "mm_media WHERE table_name = 'photos'")
+    left = count_of(seat, "mm_map WHERE mapping = 'spots_photos'"), count_of(
+        seat, "mm_media WHERE table_name = 'photos'"
+    )
     expect(left, (0, 0), "what is left of what went along")
 
 
@@ -260,7 +299,8 @@ def check_search_and_order(scene):
 
 
 def check_words_for_what_is_no_row(scene):
-    """What is no row is told in words, and nothing of it is kept or sent. A place in a system without a definition is one."""
+    """What is no row is told in words, and nothing of it is kept or sent. A place in a system without a definition is
+    one."""
     seat, crew = scene.begin()
     place = "placeIn(noteOf({ system: -1, east: '500.5', north: '-6' }, 'oak'))"
     expect(crew.value(place), {"system": -1, "east": "500.5", "north": "-6", "rest": "oak"}, "a place of a plan")
@@ -344,10 +384,16 @@ def check_where_the_device_is(scene):
     page = crew.page
     page.device_is_at(9.005, 50.552, 4.2)
     # By gdaltransform -s_srs EPSG:4258 -t_srs EPSG:25832.
-    known = ((9.005, 50.552, 500354.215816, 5600007.530529), (11.9, -33.25, 770185.680644, -3682753.508127), (9, 0, 500000, 0))
+    known = (
+        (9.005, 50.552, 500354.215816, 5600007.530529),
+        (11.9, -33.25, 770185.680644, -3682753.508127),
+        (9, 0, 500000, 0),
+    )
     for longitude, latitude, east, north in known:
         found = crew.value(f"projected(rows.systems[25832], {longitude}, {latitude})")
-        assert abs(found["east"] - east) < 0.001 and abs(found["north"] - north) < 0.001, f"{found} for {longitude}, {latitude}"
+        assert (
+            abs(found["east"] - east) < 0.001 and abs(found["north"] - north) < 0.001
+        ), f"{found} for {longitude}, {latitude}"
     crew.press("fresh")
     crew.write("title", "Here")
     crew.press("here")
@@ -368,7 +414,8 @@ LATE_DEVICE = """navigator.geolocation.getCurrentPosition = good => {
 
 
 def check_a_device_that_tells_late(scene):
-    """Its place goes into the form that asked for it, which is saved behind that, and in place of no other that was set meanwhile."""
+    """Its place goes into the form that asked for it, which is saved behind that, and in place of no other that was set
+    meanwhile."""
     seat, crew = scene.begin()
     crew.value(LATE_DEVICE)
     crew.press("fresh")
@@ -383,7 +430,11 @@ def check_a_device_that_tells_late(scene):
     crew.press("leave")
     crew.open("Stone 4")
     crew.value("tells(); 0")
-    expect(crew.value("[byId('east').value, byId('told').innerText, isHeld()]"), ["500280", "", False], "the form of another row")
+    expect(
+        crew.value("[byId('east').value, byId('told').innerText, isHeld()]"),
+        ["500280", "", False],
+        "the form of another row",
+    )
     crew.press("leave")
     crew.press("fresh")
     crew.write("title", "By a tap")
@@ -394,21 +445,30 @@ def check_a_device_that_tells_late(scene):
     crew.wait_until_it_stands()
     expect_quiet(crew)
     rows = rows_of(seat)
-    expect(by_title(rows, "Waits for it")[1][0], "@25832:500354.22/5600007.53", "the device's place")
+    note = by_title(rows, "Waits for it")[1][0]
+    assert re.fullmatch("@25832:500354.22/5600007.53 acc=4.2 age=[0-9]+", note), f"the device's place: {note}"
     expect(by_title(rows, "By a tap")[1][0], "@25832:500400.0/5600500.0", "the place that was tapped")
 
 
 def check_the_way_to_a_row(scene):
-    """A form tells how far its place is from the map's middle and which way, and the list does in its order; the device leads there as it goes."""
+    """A form tells how far its place is from the map's middle and which way, and the list does in its order; the device
+    leads there as it goes."""
     seat, crew = scene.begin()
     page = crew.page
-    ways = {(3, 4): "5.0 m, 37° (NE)", (0, -12.4): "12 m, 180° (S)", (-1500, 1): "1,500 m, 270° (W)", (-0.01, 20): "20 m, 0° (N)"}
+    ways = {
+        (3, 4): "5.0 m, 37° (NE)",
+        (0, -12.4): "12 m, 180° (S)",
+        (-1500, 1): "1,500 m, 270° (W)",
+        (-0.01, 20): "20 m, 0° (N)",
+    }
     for (east, north), words in ways.items():
         expect(crew.value(f"wordsOfWay({east}, {north})"), words, "a way in words")
     crew.value("map.setView([5600360, 500420], 2, { animate: false }); 0")
     crew.value("byId('order').value = 'near'; byId('order').dispatchEvent(new Event('change')); 0")
     texts = "[...byId('rows').querySelectorAll('small')].slice(0, 2).map(it => it.innerText)"
-    expect(crew.value(texts), ["0.0 m, 0° (N) · from the books · 6", "92 m, 229° (SW) · from the books · 5"], "the list")
+    expect(
+        crew.value(texts), ["0.0 m, 0° (N) · from the books · 6", "92 m, 229° (SW) · from the books · 5"], "the list"
+    )
     crew.value("map.setView([5600420, 500490], 2, { animate: false }); 0")
     expect(crew.value(texts)[0], "0.0 m, 0° (N) · from the books · 7", "the list where the map has moved")
     crew.open("Stone 6")
@@ -417,11 +477,21 @@ def check_the_way_to_a_row(scene):
     expect(crew.text("way"), "From the map's middle: 60 m, 180° (S)", "the way to another place")
     # By gdaltransform the first is at 500354.2 E, 5600007.5 N.
     page.device_is_at(9.005, 50.552, 4.2)
-    crew.value("window.awake = 0; navigator.wakeLock.request = async () => { window.awake += 1; return { release() { window.awake -= 1; } }; }; 0")
+    crew.value(
+        "window.awake = 0; navigator.wakeLock.request = async () => { window.awake += 1; return { release() { window.awake -= 1; } }; }; 0"
+    )
     crew.press("lead")
     page.wait("byId('way').innerText === '378 m, 21° (N), within 5 m'")
-    expect(crew.value("document.dispatchEvent(new Event('visibilitychange')), window.awake"), 2, "how often the screen was asked to stay on")
-    expect(crew.value("[[5600007, 500354], [5600360, 500490]].every(it => map.getBounds().contains(it))"), True, "both are on the map")
+    expect(
+        crew.value("document.dispatchEvent(new Event('visibilitychange')), window.awake"),
+        2,
+        "how often the screen was asked to stay on",
+    )
+    expect(
+        crew.value("[[5600007, 500354], [5600360, 500490]].every(it => map.getBounds().contains(it))"),
+        True,
+        "both are on the map",
+    )
     scene.screenshot(crew, "way")
     page.device_is_at(9.006, 50.552, 9)
     page.wait("byId('way').innerText === '358 m, 10° (N), within 9 m'")
@@ -447,7 +517,8 @@ class Late:
 
 
 class Cutter:
-    """Stands between a browser and a desk, and cuts one answer or one body off; what goes through has the desk's port for its own."""
+    """Stands between a browser and a desk, and cuts one answer or one body off; what goes through has the desk's port
+    for its own."""
 
     def __init__(self, seat):
         self.seat, self.cut, self.renames, self.late, self.drops = seat, None, True, None, None
@@ -525,7 +596,8 @@ class Cutter:
 
 
 def check_an_act_cut_at_each_line(scene):
-    """The program is killed before an act comes, in its body, and at each line: behind that the act stands, wholly and once."""
+    """The program is killed before an act comes, in its body, and at each line: behind that the act stands, wholly and
+    once."""
     for cut in ("before", "body", 0, 1, 2):
         seat = scene.seat()
         cutter = Cutter(seat)
@@ -540,7 +612,11 @@ def check_an_act_cut_at_each_line(scene):
         expect_quiet(crew, "ERR_", "Failed to load resource")
         number, rest = by_title(rows_of(seat), "Cut")
         expect(rest, ("@25832:500400.0/5600500.0", 0), f"the row, cut at {cut}")
-        expect((len(related_of(seat, number)), count_of(seat, "mm_media WHERE table_name = 'photos'")), (1, 2), f"its photo, cut at {cut}")
+        expect(
+            (len(related_of(seat, number)), count_of(seat, "mm_media WHERE table_name = 'photos'")),
+            (1, 2),
+            f"its photo, cut at {cut}",
+        )
 
 
 def check_a_removal_cut_at_each_line(scene):
@@ -592,7 +668,8 @@ def check_a_photo_whose_row_is_open_again(scene):
 
 
 def check_the_table_of_a_new_row(scene):
-    """A new row is one of the table that was chosen, also before its rows are there; whether it may have photos goes by the table of the form."""
+    """A new row is one of the table that was chosen, also before its rows are there; whether it may have photos goes by
+    the table of the form."""
     seat = scene.seat()
     cutter = Cutter(seat)
     crew = scene.crew(cutter.address)
@@ -600,10 +677,18 @@ def check_the_table_of_a_new_row(scene):
     crew.value("byId('book').value = 'owners'; byId('book').dispatchEvent(new Event('change')); 0")
     late.wait()
     crew.press("fresh")
-    expect(crew.value("[byId('into').value, byId('pictures').disabled]"), ["owners", True], "the form for a table without photos")
+    expect(
+        crew.value("[byId('into').value, byId('pictures').disabled]"),
+        ["owners", True],
+        "the form for a table without photos",
+    )
     crew.value("byId('into').value = 'spots'; byId('into').dispatchEvent(new Event('change', { bubbles: true })); 0")
     crew.page.wait("byId('thumbnails').ariaBusy === 'false'")
-    expect(crew.value("[byId('pictures').disabled, byId('thumbnails').innerText]"), [False, ""], "the form for one with photos")
+    expect(
+        crew.value("[byId('pictures').disabled, byId('thumbnails').innerText]"),
+        [False, ""],
+        "the form for one with photos",
+    )
     crew.fill(title="Of the spots", photos=[scene.photo])
     late.go()
     crew.save()
@@ -624,7 +709,9 @@ def check_a_package_without_a_map(scene):
     seat.kill()
     crew.new(title="Meanwhile")
     crew.page.wait("byId('state').innerText === \"the package doesn't answer\"")
-    expect(mmpkg("run", file, "--at", 0, given=b"row,spots,2,By another,,0\n"), "1 ok\n", "a row that another program put")
+    expect(
+        mmpkg("run", file, "--at", 0, given=b"row,spots,2,By another,,0\n"), "1 ok\n", "a row that another program put"
+    )
     seat.start()
     crew.wait_until_it_stands()
     crew.page.wait("byId('count').innerText === '3 rows'")
@@ -632,7 +719,8 @@ def check_a_package_without_a_map(scene):
 
 
 def check_line_ends_of_a_row(scene):
-    """A title and a note with line ends, which a field doesn't have, stay letter by letter where others than these are changed."""
+    """A title and a note with line ends, which a field doesn't have, stay letter by letter where others than these are
+    changed."""
     seat, crew = scene.begin()
     expect(send(crew, 'row,spots,30,"Two\nlines","by the road\r\nand the oak ",3\n'), "1 ok\n", "the office's row")
     crew.reload()
@@ -649,7 +737,8 @@ def check_line_ends_of_a_row(scene):
 
 
 def check_rows_that_come_late(scene):
-    """What was saved, changed and removed while the rows were being read is shown when they come at last, though they are of before it."""
+    """What was saved, changed and removed while the rows were being read is shown when they come at last, though they
+    are of before it."""
     seat = scene.seat()
     cutter = Cutter(seat)
     crew = scene.crew(cutter.address)
@@ -672,7 +761,8 @@ def check_rows_that_come_late(scene):
 
 
 def check_kills_of_browser_and_program(scene):
-    """What was saved while no program was there is in the next browser, and goes to the package once the program is there."""
+    """What was saved while no program was there is in the next browser, and goes to the package once the program is
+    there."""
     seat = scene.seat()
     profile = scene.folder / "kept"
     with browsers.start(scene.command, profile) as browser:
@@ -697,7 +787,9 @@ def check_two_tabs(scene):
     with browsers.start(scene.command, scene.folder / "tabs") as browser:
         tabs = [Crew(browser, seat.address, kept=True) for _ in range(2)]
         for turn in range(6):
-            tabs[turn % 2].new(title=f"Tab {turn}", place=(500_100 + 50 * turn, 5_600_900), photos=[scene.photo] if turn < 2 else [])
+            tabs[turn % 2].new(
+                title=f"Tab {turn}", place=(500_100 + 50 * turn, 5_600_900), photos=[scene.photo] if turn < 2 else []
+            )
         for crew in tabs:
             crew.wait_until_it_stands()
             crew.page.wait(f"byId('count').innerText === '{STONES + 6} rows'")
@@ -713,7 +805,8 @@ def check_two_tabs(scene):
 
 
 def check_two_tabs_that_type(scene):
-    """Each of two tabs keeps what is typed and taken in it, also when it is loaded again; what a closed one leaves is listed in the other."""
+    """Each of two tabs keeps what is typed and taken in it, also when it is loaded again; what a closed one leaves is
+    listed in the other."""
     seat = scene.seat()
     with browsers.start(scene.command, scene.folder / "drafts") as browser:
         one, other = (Crew(browser, seat.address, kept=True) for _ in range(2))
@@ -730,9 +823,15 @@ def check_two_tabs_that_type(scene):
         one.page.close()
         other.page.to_front()
         other.page.wait(f"String(left.map(it => it.owner)) === '{closed}' && byId('state').innerText === '1 not saved'")
-        expect(other.waiting(), ["One / typed in a tab that is closed, and not saved / Open Throw away"], "what is listed")
+        expect(
+            other.waiting(), ["One / typed in a tab that is closed, and not saved / Open Throw away"], "what is listed"
+        )
         press_of_outbox(other, "Open")
-        expect((other.text("told"), other.value("byId('title').value")), ("Save or close this row first.", "Other"), "the form that is open")
+        expect(
+            (other.text("told"), other.value("byId('title').value")),
+            ("Save or close this row first.", "Other"),
+            "the form that is open",
+        )
         scene.screenshot(other, "left")
         other.save()
         press_of_outbox(other, "Open")
@@ -741,12 +840,16 @@ def check_two_tabs_that_type(scene):
         other.wait_until_it_stands()
         expect_quiet(other)
     rows = rows_of(seat)
-    found = [(note, [it[0] for it in related_of(seat, number)]) for number, (note, _) in (by_title(rows, it) for it in ("One", "Other"))]
+    found = [
+        (note, [it[0] for it in related_of(seat, number)])
+        for number, (note, _) in (by_title(rows, it) for it in ("One", "Other"))
+    ]
     expect(found, [("of One", ["image/jpeg"]), ("of Other", ["image/jpeg"])], "the rows with their photos")
 
 
 def check_forms_of_a_browser_that_was_killed(scene):
-    """Of two forms that were open when the browser ended one opens in the next, and the other is listed, also for two tabs at once."""
+    """Of two forms that were open when the browser ended one opens in the next, and the other is listed, also for two
+    tabs at once."""
     seat = scene.seat()
     profile = scene.folder / "ended"
     with browsers.start(scene.command, profile) as browser:
@@ -776,7 +879,8 @@ def check_forms_of_a_browser_that_was_killed(scene):
 
 
 def check_what_waits_as_a_file(scene):
-    """What waits while the package is lost goes into another copy by the file that the browser keeps of it, and stands there as it was saved."""
+    """What waits while the package is lost goes into another copy by the file that the browser keeps of it, and stands
+    there as it was saved."""
     seat, crew = scene.begin()
     seat.kill()
     crew.new(title='A "stone", lost', note="by file", amount=4, place=(500_400, 5_600_500), photos=[scene.photo])
@@ -797,7 +901,11 @@ def check_what_waits_as_a_file(scene):
     scene.seats.append(second)
     rows = rows_of(second)
     number, rest = by_title(rows, 'A "stone", lost')
-    expect((rest, related_of(second, number)[0][0]), (("@25832:500400.0/5600500.0 by file", 4), "image/jpeg"), "the new row and its photo")
+    expect(
+        (rest, related_of(second, number)[0][0]),
+        (("@25832:500400.0/5600500.0 by file", 4), "image/jpeg"),
+        "the new row and its photo",
+    )
     expect((rows[2][2], 3 in rows), (99, False), "the row that was changed, and that which was removed")
     seat.start()
     crew.wait_until_it_stands()
@@ -858,7 +966,9 @@ def check_what_the_desk_refuses(scene):
     crew.page.wait("outbox.waiting.length === 1 && outbox.waiting[0].refused")
     assert "something is still related to it (42)" in crew.waiting()[0], crew.waiting()
     crew.page.wait("byId('state').innerText === '1 refused'")  # behind what is put back
-    related = "fetch(ROOT + 'related/spots/9').then(it => it.json()).then(all => all.map(it => it.table + it.id).join())"
+    related = (
+        "fetch(ROOT + 'related/spots/9').then(it => it.json()).then(all => all.map(it => it.table + it.id).join())"
+    )
     expect(crew.value(related), "photos7", "the photo of a row that wasn't removed")
     scene.screenshot(crew, "refused")
     for _ in range(2):
@@ -916,7 +1026,9 @@ def check_a_refused_row_that_is_being_changed(scene):
     seat, crew = scene.begin()
     row = "{ id: 900, title: 'With', note: '', amount: 0 }"
     records = "[['row', 'none', 900, 'With', '', 0], ['media', 'photos', 902, 'image/jpeg']]"
-    crew.value(f"post([{{ table: 'spots', of: 900, row: {row}, what: 'With', records: {records} }}], [{{ id: 902, bytes: new ArrayBuffer(10) }}])")
+    crew.value(
+        f"post([{{ table: 'spots', of: 900, row: {row}, what: 'With', records: {records} }}], [{{ id: 902, bytes: new ArrayBuffer(10) }}])"
+    )
     crew.page.wait("outbox.waiting.length === 1 && outbox.waiting[0].refused")
     press_of_outbox(crew, "Change")
     crew.page.wait("form !== null")
@@ -938,7 +1050,9 @@ def check_a_list_that_is_refused_in_part(scene):
     """A row that stands while its photo was refused is shown, also when what was refused is thrown away."""
     seat, crew = scene.begin()
     row = "{ id: 900, title: 'Half', note: '', amount: 0 }"
-    crew.value(f"post([{{ table: 'spots', row: {row}, what: 'Half', records: [['row', 'spots', 900, 'Half', '', 0], ['row', 'none', 1, '', '', 0]] }}])")
+    crew.value(
+        f"post([{{ table: 'spots', row: {row}, what: 'Half', records: [['row', 'spots', 900, 'Half', '', 0], ['row', 'none', 1, '', '', 0]] }}])"
+    )
     crew.page.wait("outbox.waiting.length === 1 && outbox.waiting[0].refused")
     for _ in range(2):
         press_of_outbox(crew, "Throw away")
@@ -949,7 +1063,8 @@ def check_a_list_that_is_refused_in_part(scene):
 
 
 def check_a_row_saved_anew_while_it_is_sent(scene):
-    """A refused row that is sent again, and is changed and saved before the answer comes, stands as it was saved last."""
+    """A refused row that is sent again, and is changed and saved before the answer comes, stands as it was saved
+    last."""
     seat = scene.seat()
     cutter = Cutter(seat)
     crew = scene.crew(cutter.address)
@@ -968,7 +1083,9 @@ def with_trees(scene, trees, **how):
     """A desk and its page, with so many rows more than the stones."""
     file = scene.copy()
     places = [(500_000 + it * 389 % 1000, 5_600_000 + it * 211 % 997) for it in range(trees)]
-    rows = [("spots", 1000 + it, f"Tree {it}", f"@25832:{east}/{north} oak", it) for it, (east, north) in enumerate(places)]
+    rows = [
+        ("spots", 1000 + it, f"Tree {it}", f"@25832:{east}/{north} oak", it) for it, (east, north) in enumerate(places)
+    ]
     with contextlib.closing(sqlite3.connect(file)) as opened:  # which is quicker than so many commits
         opened.executemany("INSERT INTO mm_rows (table_name, id, title, note, amount) VALUES (?, ?, ?, ?, ?)", rows)
         opened.commit()
@@ -986,9 +1103,13 @@ def check_5000_rows(scene):
     timed = "(act => { const began = performance.now(); act(); byId('rows').offsetHeight; return performance.now() - began; })"
     changed = "(() => {{ byId('{0}').value = '{1}'; byId('{0}').dispatchEvent(new Event('{2}')); }})"
     took = {word or "no word": crew.value(timed + changed.format("search", word, "input")) for word in ("tree 12", "")}
-    took |= {order: crew.value(timed + changed.format("order", order, "change")) for order in ("title", "near", "newest")}
+    took |= {
+        order: crew.value(timed + changed.format("order", order, "change")) for order in ("title", "near", "newest")
+    }
     took["marks"] = crew.value(f"{timed}(showMarks)")
-    took["all read"] = crew.value("(async () => { const began = performance.now(); await readRows(); return performance.now() - began; })()")
+    took["all read"] = crew.value(
+        "(async () => { const began = performance.now(); await readRows(); return performance.now() - began; })()"
+    )
     print("    " + ", ".join(f"{name} {it:.0f} ms" for name, it in took.items()))
     assert max(it for name, it in took.items() if name != "all read") < 1000, "the list takes over a second"
     crew.press("more")
@@ -997,7 +1118,8 @@ def check_5000_rows(scene):
 
 
 def check_numbers_where_the_clock_is_wrong(scene):
-    """Numbers of rows all differ, and are those of no other clock, also where a tablet whose battery was empty tells a day of 1970 or 2080."""
+    """Numbers of rows all differ, and are those of no other clock, also where a tablet whose battery was empty tells a
+    day of 1970 or 2080."""
     _, crew = scene.begin()
 
     def numbers(day):
@@ -1010,19 +1132,28 @@ def check_numbers_where_the_clock_is_wrong(scene):
 
 
 def check_what_is_typed(scene):
-    """What is typed or taken and not saved stays where another row is tapped, and when the page is loaded again, until it is saved or closed."""
+    """What is typed or taken and not saved stays where another row is tapped, and when the page is loaded again, until
+    it is saved or closed."""
     seat, crew = scene.begin()
     crew.press("fresh")
     crew.fill(title="Half", note="a word", place=(500_400, 5_600_500), photos=[scene.photo])
     number = crew.value("form.row.id")
     crew.tap(500_350, 5_600_300)
-    expect((crew.text("told"), crew.value("form.row.id")), ("Save or close this row first.", number), "the form behind a tap on another row")
+    expect(
+        (crew.text("told"), crew.value("form.row.id")),
+        ("Save or close this row first.", number),
+        "the form behind a tap on another row",
+    )
     for _ in range(2):
         crew.reload()
         crew.page.wait("form !== null")
         found = [crew.value(f"byId('{it}').value") for it in ("title", "note", "east", "north")]
         expect((found, crew.value("form.row.id")), (["Half", "a word", "500400.0", "5600500.0"], number), "the form")
-        expect((crew.text("told"), crew.value("isTapping()")), ("This wasn't saved yet.", False), "what is said, and whether a tap sets another place")
+        expect(
+            (crew.text("told"), crew.value("isTapping()")),
+            ("This wasn't saved yet.", False),
+            "what is said, and whether a tap sets another place",
+        )
         crew.page.wait("byId('thumbnails').querySelector('img')?.naturalWidth === 300")
     crew.save()
     crew.wait_until_it_stands()
@@ -1054,7 +1185,8 @@ def check_a_mark_opens_its_row(scene):
 
 
 def check_names_and_places_in_sight(scene):
-    """Names stand beside the marks that are seen, where there is room for them; the map goes to a row that is opened where it doesn't show it."""
+    """Names stand beside the marks that are seen, where there is room for them; the map goes to a row that is opened
+    where it doesn't show it."""
     seat, crew = scene.begin(width=390, height=800, touch=True)
     names = "[...document.querySelectorAll('.leaflet-tooltip')].map(it => it.innerText).sort().join()"
     crew.page.wait("byId('map').querySelector('.leaflet-tooltip') === null && marked.size === 12")
@@ -1108,7 +1240,7 @@ def check_marks_of_hundreds_of_rows(scene):
 
 # Whether a mark is drawn, at so many times its size to the right and down of its place.
 IS_DRAWN = """((id, right, down) => {
-  const { mark } = marked.get(id), { canvas } = marks, at = mark._point, from = canvas._bounds.min, size = mark.getRadius();
+  const { mark } = marked.get(`spots/${id}`), { canvas } = marks, at = mark._point, from = canvas._bounds.min, size = mark.getRadius();
   const [x, y] = [at.x - from.x + right * size, at.y - from.y + down * size].map(Math.round);
   return canvas._ctx.getImageData(x, y, 1, 1).data[3] > 0;
 })"""
@@ -1119,7 +1251,9 @@ def check_a_map_that_goes_while_marks_are_drawn(scene):
     _, crew = scene.begin()
     crew.page.wait("marked.size > 0")
     other = "byId('pyramids').value = 'plan'; byId('pyramids').dispatchEvent(new Event('change'));"
-    drawn = "[...marked.values()][0].mark.redraw(); map.setView(map.getCenter(), map.getZoom() - 1, { animate: false });"
+    drawn = (
+        "[...marked.values()][0].mark.redraw(); map.setView(map.getCenter(), map.getZoom() - 1, { animate: false });"
+    )
     crew.value(f"(() => {{ {drawn} {other} }})()")
     crew.page.wait("new Promise(good => requestAnimationFrame(() => requestAnimationFrame(() => good(true))))")
     expect_quiet(crew)
@@ -1135,7 +1269,9 @@ def check_the_shape_of_a_mark(scene):
     act = f"{{ table: 'spots', of: 6, row: {row}, what: 'Stone 6', records: [], refused: 'no' }}"
     crew.value(f"keep(acts => acts.put({{ ...{act}, at: KEY, saved: saving() }}))")
     crew.write("search", "")
-    crew.page.wait("marked.get(5)?.mark.row.waits === 'waits' && marked.get(6)?.mark.row.waits === 'refused' && marked.has(7)")
+    crew.page.wait(
+        "marked.get('spots/5')?.mark.row.waits === 'waits' && marked.get('spots/6')?.mark.row.waits === 'refused' && marked.has('spots/7')"
+    )
     crew.page.wait("new Promise(good => requestAnimationFrame(() => requestAnimationFrame(() => good(true))))")
     # A square has its corners, and a triangle two of them below, and none above.
     corners = [(0.9, -0.9), (0.9, 0.9)]
@@ -1153,7 +1289,9 @@ def check_the_end_of_the_day(scene):
     crew.write("title", "Stone four")
     for _ in range(2):
         crew.press("end")
-    expect((crew.text("told"), crew.value("ended")), ("Save or close this row first.", False), "the end with an open form")
+    expect(
+        (crew.text("told"), crew.value("ended")), ("Save or close this row first.", False), "the end with an open form"
+    )
     cutter.late = late = Late(b"Stone four")
     crew.save()
     late.wait()
@@ -1206,7 +1344,11 @@ def check_a_frame_of_another_site(scene):
         for mode, kind in itertools.product(("no-cors", "cors"), ("text/csv", "text/plain")):
             how = f"{{ method: 'POST', mode: '{mode}', headers: {{ 'Content-Type': '{kind}' }}, body: 'row,spots,801,Evil,,0' }}"
             page.value(f"fetch('{seat.address}/records', {how}).then(it => it.status, it => 0)")
-        expect(page.value(f"fetch('{seat.address}/rows/spots/1').then(it => it.text(), () => 'kept')"), "kept", "rows that another page reads")
+        expect(
+            page.value(f"fetch('{seat.address}/rows/spots/1').then(it => it.text(), () => 'kept')"),
+            "kept",
+            "rows that another page reads",
+        )
         expect(page.value("document.getElementById('image').naturalWidth"), 0, "a photo in another page")
         page.value("document.getElementById('form').submit(); 0")
         time.sleep(1)
@@ -1641,7 +1783,11 @@ def check_20_photos_of_12_megapixels(scene):
     crew.page.choose_files("byId('pictures')", [large] * 20)
     there = "form?.photos.length === 20 && form.coming === 0 && byId('thumbnails').ariaBusy === 'false'"
     crew.page.wait(there, 300)
-    expect(crew.value("[wrote.length, new Set(wrote).size, mostPixels]"), [20, 20, 12_000_000], "photos written, and pixels at a time")
+    expect(
+        crew.value("[wrote.length, new Set(wrote).size, mostPixels]"),
+        [20, 20, 12_000_000],
+        "photos written, and pixels at a time",
+    )
     seen = "[...byId('thumbnails').querySelectorAll('img')].map(it => Math.max(it.naturalWidth, it.naturalHeight))"
     crew.page.wait(f"{seen}.length === 20 && {seen}.every(it => it > 0)")
     assert max(crew.value(seen)) <= 400, f"what is shown of them: {crew.value(seen)}"
@@ -1672,7 +1818,8 @@ def check_a_press_in_another_form(scene):
 
 
 def check_numbers_of_the_system_that_was_shown(scene):
-    """A place that was typed is of the system that stood beside it, also where another map is shown when it is saved."""
+    """A place that was typed is of the system that stood beside it, also where another map is shown when it is
+    saved."""
     seat, crew = scene.begin()
     crew.press("fresh")
     crew.fill(title="Typed")
@@ -1738,8 +1885,8 @@ LOOK_AS = """(words => {
 
 
 def check_by_night_and_with_more_contrast(scene):
-    """Each text stands out from its ground at night too, and by 7 to 1 where more contrast is asked for; where a browser
-    gives all colours a button that is pressed has its own."""
+    """Each text stands out from its ground at night too, and by 7 to 1 where more contrast is asked for; where a
+    browser gives all colours a button that is pressed has its own."""
     for words, least in ((["scheme: dark"], 4.5), (["contrast: more"], 7), (["scheme: dark", "contrast: more"], 7)):
         _, crew = scene.begin()
         crew.press("fresh")
@@ -1767,9 +1914,15 @@ def check_names_of_what_is_pressed(scene):
     crew.press("fresh")
     names = crew.value(NAMES)
     expect([it for it in set(names) if not it or names.count(it) > 1], [], "names that are none, or of two")
-    heads = crew.value("[...document.querySelectorAll('h1, h2, legend')].filter(it => it.checkVisibility()).map(it => it.firstChild.data.trim())")
+    heads = crew.value(
+        "[...document.querySelectorAll('h1, h2, legend')].filter(it => it.checkVisibility()).map(it => it.firstChild.data.trim())"
+    )
     expect([it for it in heads if heads.count(it) > 1], [], "heads of one name")
-    expect(crew.value("[byId('package').tagName, byId('panel').ariaLabel]"), ["H1", "Work, tables and media"], "the head, and the panel's name")
+    expect(
+        crew.value("[byId('package').tagName, byId('panel').ariaLabel]"),
+        ["H1", "Work, tables and media"],
+        "the head, and the panel's name",
+    )
     live = "(it => it.tagName === 'OUTPUT' || it.role !== null || it.ariaLive !== null)(byId('position'))"
     expect(crew.value(live), False, "coordinates are told aloud")
     expect_quiet(crew)
@@ -1785,7 +1938,11 @@ def check_the_focus_in_what_waits(scene):
     crew.value("failures.set(outbox.waiting[0].saved, { count: 2, why: 'no' }); showWaiting()")
     crew.value("byId('outbox').querySelector('button').focus(); window.button = document.activeElement; 0")
     crew.value("failures.set(outbox.waiting[0].saved, { count: 3, why: 'no' }); showWaiting()")
-    expect(crew.value("[button.isConnected, document.activeElement.innerText]"), [False, "Throw away"], "the focus behind other words")
+    expect(
+        crew.value("[button.isConnected, document.activeElement.innerText]"),
+        [False, "Throw away"],
+        "the focus behind other words",
+    )
     crew.page.press("Enter", "Enter")
     crew.page.wait("outbox.waiting.length === 0 && byId('outbox').children.length === 0")
     expect(crew.value("document.activeElement.id"), "waits", "the focus where the item has gone")
@@ -1823,7 +1980,9 @@ def check_words_above_the_map(scene):
 def check_a_map_without_a_zoom(scene):
     """A map that has no matrix yet is named, with what helps."""
     file = scene.folder / "bare.mmpkg"
-    bare = record(["srs", 7, "plan", "NONE", 7, "metres of a plan", ""]) + record(["pyramid", "bare", "Bare map", 7, 0, 0, 4_096_000_000, 4_096_000_000, "two"])
+    bare = record(["srs", 7, "plan", "NONE", 7, "metres of a plan", ""]) + record(
+        ["pyramid", "bare", "Bare map", 7, 0, 0, 4_096_000_000, 4_096_000_000, "two"]
+    )
     new_package(file, bare + record(["table", "spots", "attributes", "Spots"]))
     take_in(file, scene.folder / "bare")
     seat = Seat(file)
@@ -1856,7 +2015,9 @@ def check_a_new_row_on_small_screens(scene):
         crew.page.wait("form !== null && byId('thumbnails').ariaBusy === 'false'")
         top, bottom = crew.value("(it => [it.top, it.bottom])(byId('camera').closest('label').getBoundingClientRect())")
         above, below = crew.value(f"{inside}('panel')")[0], crew.value(f"{inside}('acts')")[0]
-        assert above <= top and bottom <= below, f"'Take a photo' at {top} to {bottom} of {above} to {below}, {wide} pixels"
+        assert (
+            above <= top and bottom <= below
+        ), f"'Take a photo' at {top} to {bottom} of {above} to {below}, {wide} pixels"
         expect(crew.value("byId('lead').hidden"), True, "a way that leads to a row that is being made")
         crew.page.close()
         scene.pages.remove(crew.page)
@@ -1882,22 +2043,39 @@ def check_a_title_of_1000_bytes(scene):
 
 
 def check_small_screens_and_sunlight(scene):
-    """On a phone nothing is cut off at the side, map, form and state are to be seen, what is pressed is 44 pixels high, and each text stands out
-    from its ground by 4.5 to 1."""
+    """On a phone nothing is cut off at the side, map, form and state are to be seen, what is pressed is 44 pixels high,
+    and each text stands out from its ground by 4.5 to 1."""
     for wide, high in ((320, 568), (360, 740), (740, 360), (800, 1280)):
         _, crew = scene.begin(width=wide, height=high, touch=True)
         crew.value("byId('fresh').click(); 0")
         whole = "(it => it.scrollWidth <= it.clientWidth && it.scrollHeight <= it.clientHeight)(byId('state'))"
-        expect(crew.value(f"tellState('the package doesn\\'t answer', 'gone'), {whole}"), True, f"the state is told whole at {wide} pixels")
-        sizes = crew.value("['map', 'panel', 'edit', 'save'].map(it => byId(it).getBoundingClientRect()).map(it => [it.left, it.top, it.right, it.bottom])")
-        of_map, panel, edit, save = ([max(left, 0), max(top, 0), min(right, wide), min(bottom, high)] for left, top, right, bottom in sizes)
-        seen = [(it[2] - it[0], it[3] - it[1]) for it in (of_map, [*map(max, panel[:2], edit[:2]), *map(min, panel[2:], edit[2:])], save)]
+        expect(
+            crew.value(f"tellState('the package doesn\\'t answer', 'gone'), {whole}"),
+            True,
+            f"the state is told whole at {wide} pixels",
+        )
+        sizes = crew.value(
+            "['map', 'panel', 'edit', 'save'].map(it => byId(it).getBoundingClientRect()).map(it => [it.left, it.top, it.right, it.bottom])"
+        )
+        of_map, panel, edit, save = (
+            [max(left, 0), max(top, 0), min(right, wide), min(bottom, high)] for left, top, right, bottom in sizes
+        )
+        seen = [
+            (it[2] - it[0], it[3] - it[1])
+            for it in (of_map, [*map(max, panel[:2], edit[:2]), *map(min, panel[2:], edit[2:])], save)
+        ]
         assert all(across >= 290 and down >= 150 for across, down in seen[:2]), f"map and form at {wide} pixels: {seen}"
         assert seen[2][1] >= 44, f"the button at {wide} pixels: {seen}"
         expect(crew.value("document.documentElement.scrollWidth <= innerWidth"), True, f"the page fits {wide} pixels")
-        expect(crew.value("byId('panel').scrollWidth <= byId('panel').clientWidth"), True, f"the panel fits {wide} pixels")
+        expect(
+            crew.value("byId('panel').scrollWidth <= byId('panel').clientWidth"), True, f"the panel fits {wide} pixels"
+        )
         pressed = "[...document.querySelectorAll('button, input, select')].filter(it => it.offsetParent)"
-        expect(crew.value(f"{pressed}.filter(it => it.getBoundingClientRect().height < 44).map(it => it.id)"), [], "what is too small for a finger")
+        expect(
+            crew.value(f"{pressed}.filter(it => it.getBoundingClientRect().height < 44).map(it => it.id)"),
+            [],
+            "what is too small for a finger",
+        )
         crew.value("say('test', 'A message'); tellState('1 to send', 'waits'); 0")
         expect(crew.value(CONTRAST), [], "texts that don't stand out")
         crew.value("tellState('the package does not answer', 'gone'); byId('told').textContent = 'No'; 0")
@@ -1906,11 +2084,16 @@ def check_small_screens_and_sunlight(scene):
     for wide in (1024, 1280):
         _, crew = scene.begin(width=wide, height=768)
         for left in ("", "2 to send, 1 not saved"):
-            expect(crew.value(f"tellEnd('{left}'), {whole}"), True, f"the end of the day is told whole at {wide} pixels, {left!r}")
+            expect(
+                crew.value(f"tellEnd('{left}'), {whole}"),
+                True,
+                f"the end of the day is told whole at {wide} pixels, {left!r}",
+            )
 
 
 def check_the_way_to_what_waits(scene):
-    """A tap on the state shows what isn't in the package yet, on a phone behind all rows, also where the panel was hidden."""
+    """A tap on the state shows what isn't in the package yet, on a phone behind all rows, also where the panel was
+    hidden."""
     seat, crew = scene.begin(width=360, height=740, touch=True)
     seat.kill()
     crew.new(title="Waits")
@@ -1973,7 +2156,8 @@ def listed(crew):
 
 
 def check_maps_behind_the_work(scene):
-    """A picture is seen where the package has no tile, also outside its map, below its tiles, as strong as it is chosen, and not where it is off."""
+    """A picture is seen where the package has no tile, also outside its map, below its tiles, as strong as it is
+    chosen, and not where it is off."""
     ground = maps_drawn.Ground(GROUND, AROUND)
     with with_maps(scene, **{"ortho.tif": ground, "notes.txt": "GDAL opens no map of it"}) as (_, crew, _server):
         crew.value("map.setView([5600950, 501000], 1, { animate: false }); 0")
@@ -1982,18 +2166,28 @@ def check_maps_behind_the_work(scene):
         assert own != GROUND, "the picture lies over the package's tiles"
         expect(crew.value("byId('none').hidden"), True, "that no tile is here isn't said where a picture is")
         expect(listed(crew), [["ortho.tif", ""], ["notes.txt", "can't be shown: GDAL opens no map of it"]], "the list")
-        expect(crew.value("[...byId('layers').querySelectorAll('label')].map(it => it.innerText)"), ["Base map, of the package", "ortho.tif"], "what can be chosen")
+        expect(
+            crew.value("[...byId('layers').querySelectorAll('label')].map(it => it.innerText)"),
+            ["Base map, of the package", "ortho.tif"],
+            "what can be chosen",
+        )
         scene.screenshot(crew, "behind")
         switch(crew, 0, "[type=checkbox]", "checked = false")
         expect(colour_at(crew, 500_930, 5_600_900), GROUND, "the picture where the package's map is off")
         switch(crew, 1, "[type=range]", "value = 50")
         found = colour_at(crew, 501_120, 5_601_130)
-        assert all(abs(it - (one + other) / 2) <= 2 for it, one, other in zip(found, GROUND, (228, 232, 234))), f"half as strong: {found}"
+        assert all(
+            abs(it - (one + other) / 2) <= 2 for it, one, other in zip(found, GROUND, (228, 232, 234))
+        ), f"half as strong: {found}"
         switch(crew, 1, "[type=checkbox]", "checked = false")
         expect(colour_at(crew, 501_120, 5_601_130), (228, 232, 234), "where the picture is off")
         crew.reload()
         crew.page.wait("lying.length > 0")
-        expect(crew.value("[own.on, lying[0].look.on, lying[0].look.strength]"), [False, False, 50], "what was chosen, when the page is loaded again")
+        expect(
+            crew.value("[own.on, lying[0].look.on, lying[0].look.strength]"),
+            [False, False, 50],
+            "what was chosen, when the page is loaded again",
+        )
         crew.value("map.setView([5700000, 600000], 1, { animate: false }); 0")
         switch(crew, 1, "[type=checkbox]", "checked = true")
         expect(listed(crew)[0], ["ortho.tif", "lies elsewhere"], "what is said where it isn't")
@@ -2002,16 +2196,21 @@ def check_maps_behind_the_work(scene):
 
 def switch(crew, at, what, to):
     """Changes a field of a map in the list."""
-    crew.value(f"(it => {{ it.{to}; it.dispatchEvent(new Event('change')); }})(byId('layers').children[{at}].querySelector('{what}')); 0")
+    crew.value(
+        f"(it => {{ it.{to}; it.dispatchEvent(new Event('change')); }})(byId('layers').children[{at}].querySelector('{what}')); 0"
+    )
 
 
 def check_parts_in_sight_alone(scene):
-    """Parts are asked for where the map is looked at; those that nobody looks at any more before they are drawn aren't drawn."""
+    """Parts are asked for where the map is looked at; those that nobody looks at any more before they are drawn aren't
+    drawn."""
     ground = maps_drawn.Ground(GROUND, [400_000, 5_500_000, 600_000, 5_700_000])
     with with_maps(scene, **{"ortho.tif": ground}) as (_, crew, server):
         crew.page.wait(SETTLED)
         near = [500_000 - 2048, 5_600_000 - 2048, 501_024 + 2048, 5_601_024 + 2048]
-        assert ground.asked and all(near[0] <= it[0] and near[1] <= it[1] and it[2] <= near[2] and it[3] <= near[3] for it in ground.asked), ground.asked
+        assert ground.asked and all(
+            near[0] <= it[0] and near[1] <= it[1] and it[2] <= near[2] and it[3] <= near[3] for it in ground.asked
+        ), ground.asked
         workers, before = server.maps.threads._max_workers, len(ground.asked)
         while ground.begun.acquire(blocking=False):
             pass
@@ -2031,7 +2230,8 @@ def check_parts_in_sight_alone(scene):
 
 
 def check_shapes_behind_the_work(scene):
-    """Parcels are drawn above the package's tiles with names by a column, those in sight alone, and asked for anew where that has moved."""
+    """Parcels are drawn above the package's tiles with names by a column, those in sight alone, and asked for anew
+    where that has moved."""
     parcels, ground = maps_drawn.Parcels([500_000, 5_600_000, 501_000, 5_601_000]), maps_drawn.Ground(GROUND, AROUND)
     with with_maps(scene, **{"parcels.gpkg": parcels, "ortho.tif": ground}) as (_, crew, _server):
         crew.value("map.setView([5600500, 500500], 2, { animate: false }); 0")
@@ -2040,7 +2240,13 @@ def check_shapes_behind_the_work(scene):
         expect(crew.value("document.querySelectorAll('.named').length"), 0, "names where none are chosen")
         switch(crew, 1, "select", "value = 'parcel'")
         crew.page.wait("document.querySelectorAll('.named').length > 10")
-        expect(crew.value("[...document.querySelectorAll('.named')].every(it => /^parcel [0-9]+.[0-9]+$/.test(it.innerText))"), True, "the names")
+        expect(
+            crew.value(
+                "[...document.querySelectorAll('.named')].every(it => /^parcel [0-9]+.[0-9]+$/.test(it.innerText))"
+            ),
+            True,
+            "the names",
+        )
         overlaps = """(boxes => boxes.some((one, at) => boxes.slice(at + 1).some(it => one.left < it.right && it.left < one.right
           && one.top < it.bottom && it.top < one.bottom)))([...document.querySelectorAll('.named')].map(it => it.getBoundingClientRect()))"""
         expect(crew.value(overlaps), False, "whether one name lies over another")
@@ -2056,21 +2262,40 @@ def check_shapes_behind_the_work(scene):
         # Their order is kept, and the first of two pictures lies on top.
         crew.press("byId('layers').children[1].querySelector('.down')")
         expect([it[0] for it in listed(crew)], ["ortho.tif", "parcels.gpkg"], "the order")
-        expect(crew.value("Object.values(lying).map(it => Number(map.getPane(paneOf(it)).style.zIndex) > 200)"), [False, True], "which lies above the tiles")
+        expect(
+            crew.value("Object.values(lying).map(it => Number(map.getPane(paneOf(it)).style.zIndex) > 200)"),
+            [False, True],
+            "which lies above the tiles",
+        )
         crew.reload()
         crew.page.wait("lying.length > 0")
-        expect([it[0] for it in listed(crew)], ["ortho.tif", "parcels.gpkg"], "the order, when the page is loaded again")
+        expect(
+            [it[0] for it in listed(crew)], ["ortho.tif", "parcels.gpkg"], "the order, when the page is loaded again"
+        )
         crew.page.wait("document.querySelectorAll('.named').length > 0")
         expect_quiet(crew)
 
 
 def check_a_map_behind_a_package_without_one(scene):
-    """A package without any pyramid works on a map behind it, in a system that suits that; without one it says that it has no map."""
+    """A package without any pyramid works on a map behind it, in a system that suits that; without one it says that it
+    has no map."""
     file = scene.folder / f"bare-{len(scene.seats)}.mmpkg"
-    new_package(file, "".join(map(record, [["table", "spots", "attributes", "Spots"], ["row", "spots", 1, "Stone 1", "@25832:500500/5600500", 0]])))
+    new_package(
+        file,
+        "".join(
+            map(
+                record,
+                [["table", "spots", "attributes", "Spots"], ["row", "spots", 1, "Stone 1", "@25832:500500/5600500", 0]],
+            )
+        ),
+    )
     take_in(file, scene.folder / "without")
     with with_maps(scene, file, **{"ortho.tif": maps_drawn.Ground(GROUND, AROUND)}) as (seat, crew, _server):
-        expect(crew.value("[shown.srs_id, shown.table, byId('messages').innerText, byId('none').hidden]"), [25832, "", "", True], "the map")
+        expect(
+            crew.value("[shown.srs_id, shown.table, byId('messages').innerText, byId('none').hidden]"),
+            [25832, "", "", True],
+            "the map",
+        )
         expect(colour_at(crew, 500_400, 5_600_900), GROUND, "the map's colour")
         expect(crew.value("marked.size"), 1, "marks")
         crew.new(title="Oak", place=(500_400, 5_600_500))
@@ -2083,24 +2308,41 @@ def check_a_map_behind_a_package_without_one(scene):
     seat = Seat(file)
     scene.seats.append(seat)
     crew = scene.crew(seat.address)
-    expect(crew.value("[map, byId('messages').innerText, byId('maps').hidden]"), [None, "The package has no map yet.", True], "without a map behind it")
+    expect(
+        crew.value("[map, byId('messages').innerText, byId('maps').hidden]"),
+        [None, "The package has no map yet.", True],
+        "without a map behind it",
+    )
 
 
 def check_the_maps_address_alone(scene):
-    """The policy opens for the one address of the maps: no other port, and nothing else at that port; without maps for none."""
+    """The policy opens for the one address of the maps: no other port, and nothing else at that port; without maps for
+    none."""
     with with_maps(scene, **{"ortho.tif": maps_drawn.Ground(GROUND, AROUND)}) as (seat, crew, server):
         asked = "fetch('{}').then(it => it.status, () => 'kept')"
         expect(crew.value(asked.format(f"{server.address}maps?system=25832")), 200, "the maps")
         with socket.create_server(("127.0.0.1", 0)) as other:
             other.settimeout(1)
             there = f"http://127.0.0.1:{other.getsockname()[1]}"
-            for address in (f"{there}/{server.token}/maps", f"http://127.0.0.1:{server.server_port}/other/maps", f"http://localhost:{server.server_port}/"):
+            for address in (
+                f"{there}/{server.token}/maps",
+                f"http://127.0.0.1:{server.server_port}/other/maps",
+                f"http://localhost:{server.server_port}/",
+            ):
                 expect(crew.value(asked.format(address)), "kept", f"a fetch of {address}")
             plain = scene.crew(seat.address)
-            expect(plain.value(asked.format(f"{server.address}maps?system=25832")), "kept", "a fetch of the maps by a page that wasn't told of them")
+            expect(
+                plain.value(asked.format(f"{server.address}maps?system=25832")),
+                "kept",
+                "a fetch of the maps by a page that wasn't told of them",
+            )
             expect(plain.value("byId('maps').hidden"), True, "whether that page has no list of maps")
             plain = scene.crew(seat.address, behind=f"x&maps={there.rsplit(':', 1)[1]}/short")
-            expect(plain.value("[MAPS, byId('maps').hidden, packageFile]"), [None, True, "x"], "a page whose address tells no maps")
+            expect(
+                plain.value("[MAPS, byId('maps').hidden, packageFile]"),
+                [None, True, "x"],
+                "a page whose address tells no maps",
+            )
             with contextlib.suppress(TimeoutError):
                 other.accept()
                 raise AssertionError("another address was asked")
@@ -2108,7 +2350,9 @@ def check_the_maps_address_alone(scene):
 
 def check_maps_that_end(scene):
     """Where the program of maps ends that is said in the list, and the work goes on; nothing of it waits."""
-    with with_maps(scene, **{"ortho.tif": maps_drawn.Ground(GROUND, AROUND), "parcels.gpkg": maps_drawn.Parcels(AROUND)}) as (seat, crew, server):
+    with with_maps(
+        scene, **{"ortho.tif": maps_drawn.Ground(GROUND, AROUND), "parcels.gpkg": maps_drawn.Parcels(AROUND)}
+    ) as (seat, crew, server):
         crew.page.wait(SETTLED)
         server.end()
         crew.value("map.setView([5600950, 501900], 2, { animate: false }); 0")
@@ -2122,10 +2366,17 @@ def check_maps_that_end(scene):
 
 def photo_with_a_place(scene, crew, name, degrees=True):
     """A JPEG of the browser's making, with Exif that tells 50° 33' 7.2" N, 9° 0' 18" E where it is asked for."""
-    told = crew.value("(it => (it.width = 400, it.height = 300, it.getContext('2d').fillRect(0, 0, 200, 150), it.toDataURL('image/jpeg')))(document.createElement('canvas'))")
+    told = crew.value(
+        "(it => (it.width = 400, it.height = 300, it.getContext('2d').fillRect(0, 0, 200, 150), it.toDataURL('image/jpeg')))(document.createElement('canvas'))"
+    )
     data = base64.b64decode(told.split(",")[1])
     rationals = struct.pack("<12I", 50, 1, 33, 1, 72, 10, 9, 1, 0, 1, 18, 1)
-    gps = struct.pack("<H", 4) + b"".join(struct.pack("<HHI", *it) for it in ((1, 2, 2),)) + b"N\0\0\0" + struct.pack("<HHII", 2, 5, 3, 80)
+    gps = (
+        struct.pack("<H", 4)
+        + b"".join(struct.pack("<HHI", *it) for it in ((1, 2, 2),))
+        + b"N\0\0\0"
+        + struct.pack("<HHII", 2, 5, 3, 80)
+    )
     gps += struct.pack("<HHI", 3, 2, 2) + b"E\0\0\0" + struct.pack("<HHII", 4, 5, 3, 104) + struct.pack("<I", 0)
     head = struct.pack("<2sHI", b"II", 42, 8) + struct.pack("<HHHII", 1, 0x8825, 4, 1, 26) + struct.pack("<I", 0)
     exif = b"Exif\0\0" + head + gps + rationals
@@ -2136,18 +2387,29 @@ def photo_with_a_place(scene, crew, name, degrees=True):
 
 
 def check_a_photos_own_place(scene):
-    """The place that a photo tells is offered to the form and never taken unasked; where it can't be reckoned that is said."""
+    """The place that a photo tells is offered to the form and never taken unasked; where it can't be reckoned that is
+    said."""
     seat, crew = scene.begin()
-    photo, plain = photo_with_a_place(scene, crew, "told.jpg"), photo_with_a_place(scene, crew, "plain.jpg", degrees=False)
+    photo, plain = photo_with_a_place(scene, crew, "told.jpg"), photo_with_a_place(
+        scene, crew, "plain.jpg", degrees=False
+    )
     crew.press("fresh")
     crew.fill(title="By the photo", photos=[plain])
     expect(crew.value("byId('shot').hidden"), True, "an offer without a place")
     crew.fill(photos=[plain, photo])
     crew.page.wait("!byId('shot').hidden")
-    expect([crew.value(f"byId('{it}').value") for it in ("east", "north")], ["", ""], "the place before the button is pressed")
+    expect(
+        [crew.value(f"byId('{it}').value") for it in ("east", "north")],
+        ["", ""],
+        "the place before the button is pressed",
+    )
     crew.press("shot")
     # By gdaltransform -s_srs EPSG:4258 -t_srs EPSG:25832.
-    expect([crew.value(f"byId('{it}').value") for it in ("east", "north")], ["500354.22", "5600007.53"], "the photo's place")
+    expect(
+        [crew.value(f"byId('{it}').value") for it in ("east", "north")],
+        ["500354.22", "5600007.53"],
+        "the photo's place",
+    )
     scene.screenshot(crew, "photo-place")
     crew.save()
     crew.wait_until_it_stands()
@@ -2168,10 +2430,17 @@ def check_a_photos_own_place(scene):
 
 
 def check_slips_are_told(scene):
-    """How many words with @ are no place, places are outside all maps, and maps less than a metre, is told below the list."""
+    """How many words with @ are no place, places are outside all maps, and maps less than a metre, is told below the
+    list."""
     file = scene.copy()
-    lines = ["row,spots,30,Comma,\"@25832:500100,5/5600100,25\",0", "row,spots,31,Tail,@25832:500100/5600100weg,0", "row,spots,32,Swapped,@25832:5600100/500100,0",
-             "row,spots,33,Address,mail ada@example.org,0", "pyramid,tiny,Tiny map,25832,565000,5933000,567048,5935048,two", "matrix,tiny,0,8,8,256,256,1,1"]
+    lines = [
+        "row,spots,30,Comma,\"@25832:500100,5/5600100,25\",0",
+        "row,spots,31,Tail,@25832:500100/5600100weg,0",
+        "row,spots,32,Swapped,@25832:5600100/500100,0",
+        "row,spots,33,Address,mail ada@example.org,0",
+        "pyramid,tiny,Tiny map,25832,565000,5933000,567048,5935048,two",
+        "matrix,tiny,0,8,8,256,256,1,1",
+    ]
     mmpkg("run", file, given="\n".join([*lines, ""]).encode())
     take_in(file, scene.folder / f"page-{scene.count}")
     seat = Seat(file)
@@ -2205,8 +2474,22 @@ def main():
         with browsers.start(given.browser, folder / "profile") as browser:
             scene = Scene(folder, browser, given.browser, given.keep)
             # They take what all checks share from here.
-            out, measure = (importlib.import_module(f"crew_{it}_checks") for it in ("out", "measure"))
-            checks = globals() | vars(out) | vars(measure)
+            names = (
+                "out",
+                "measure",
+                "mine",
+                "camera",
+                "media",
+                "who",
+                "tables",
+                "forms",
+                "shapes",
+                "history",
+                "beyond",
+                "german",
+            )
+            more = [vars(importlib.import_module(f"crew_{it}_checks")) for it in names]
+            checks = {name: it for named in (globals(), *more) for name, it in named.items()}
             passed, failed = run_checks("crew's page", checks, given.words, scene.call)
     end(passed, failed)
 

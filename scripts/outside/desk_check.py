@@ -1,9 +1,11 @@
 #!/usr/bin/env python3
-"""Asks the desk over sockets and by curl: the worked requests, large and cut bodies, clients that vanish, kills, keys (desk.sh calls it).
+"""Asks the desk over sockets and by curl: the worked requests, large and cut bodies, clients that vanish, kills,
+keys (desk.sh calls it).
 
     desk_check.py [WORD ..]
 
-With words only the checks whose names have one of them. Wanted values are those of docs/FORMATS.md, by the model in scripts/model.
+With words only the checks whose names have one of them. Wanted values are those of docs/FORMATS.md, by the model in
+scripts/model.
 """
 import contextlib
 import datetime
@@ -51,10 +53,23 @@ class Running:
         self.port = self.held.getsockname()[1]
         if not self.file.exists():
             expect(mmpkg("init", self.file), "init ok\n", "init")
-        words = [PROGRAM, "desk", self.file, "--port", str(self.port), "--count", str(count), *(["--page", table] if table else [])]
+        words = [
+            PROGRAM,
+            "desk",
+            self.file,
+            "--port",
+            str(self.port),
+            "--count",
+            str(count),
+            *(["--page", table] if table else []),
+        ]
         self.model, self.package = Desk(self.port, key or "", table), Package()
-        environment = {name: value for name, value in os.environ.items() if name != "MMPKG_KEY"} | ({"MMPKG_KEY": key} if key else {})
-        self.program = subprocess.Popen(words, stdout=subprocess.PIPE, env=environment, preexec_fn=long_files_are_errors)
+        environment = {name: value for name, value in os.environ.items() if name != "MMPKG_KEY"} | (
+            {"MMPKG_KEY": key} if key else {}
+        )
+        self.program = subprocess.Popen(
+            words, stdout=subprocess.PIPE, env=environment, preexec_fn=long_files_are_errors
+        )
         self.address = self.line()
 
     def line(self):
@@ -96,11 +111,17 @@ class Running:
 
     def end(self):
         """Ends the desk well: it tells 200, ends with 0, and FILE alone holds all."""
-        expect(self.ask(self.head("POST", "/end")), b"HTTP/1.1 200 OK\r\nContent-Length: 0\r\nConnection: close\r\n\r\n", "the end")
+        expect(
+            self.ask(self.head("POST", "/end")),
+            b"HTTP/1.1 200 OK\r\nContent-Length: 0\r\nConnection: close\r\n\r\n",
+            "the end",
+        )
         said, _ = self.program.communicate(timeout=AT_ONCE)
         expect((said, self.program.returncode), (b"", 0), "what is printed behind the end")
         journal = self.file.with_name(self.file.name + "-wal")
-        assert not journal.exists() or journal.stat().st_size <= JOURNAL_HEAD, "the journal holds commits behind a good end"
+        assert (
+            not journal.exists() or journal.stat().st_size <= JOURNAL_HEAD
+        ), "the journal holds commits behind a good end"
 
     def listed(self):
         """Compares the listing, but for the moments of changes."""
@@ -176,9 +197,13 @@ def check_the_worked_requests():
              b"table,photos,media,Photos\nmedia,photos,3,text/html,3c\ntable,vi"),
             ("GET", f"/{KEY}/media/photos/3", [host], b""),
         ):  # fmt: skip
-            head = f"{method} {target} HTTP/1.1\r\n" + "".join(f"{name}: {value}\r\n" for name, value in fields) + "\r\n"
+            head = (
+                f"{method} {target} HTTP/1.1\r\n" + "".join(f"{name}: {value}\r\n" for name, value in fields) + "\r\n"
+            )
             wanted, _ = it.model.answer(it.package, 0, method, target, fields, sent)
-            expect(untimed(it.ask(head.encode() + sent).decode()), untimed(wanted.decode()), f"{method} {target} {fields}")
+            expect(
+                untimed(it.ask(head.encode() + sent).decode()), untimed(wanted.decode()), f"{method} {target} {fields}"
+            )
             asked += 1
         it.end()
         it.listed()
@@ -188,7 +213,12 @@ def check_the_worked_requests():
 def check_a_head_that_is_none():
     """400 to what is no head."""
     with desk() as it:
-        for sent in (b"\r\n\r\n\r\n", b"GET /\r\n\r\n", b"x" * 8193, b"GET / HTTP/1.1\r\n" + b"a: b\r\n" * 65 + b"\r\n"):
+        for sent in (
+            b"\r\n\r\n\r\n",
+            b"GET /\r\n\r\n",
+            b"x" * 8193,
+            b"GET / HTTP/1.1\r\n" + b"a: b\r\n" * 65 + b"\r\n",
+        ):
             expect(status_of(it.ask(sent)), 400, f"the answer to {sent[:30]!r}")
         it.end()
 
@@ -199,14 +229,27 @@ def check_a_large_body_by_curl():
         it.post(b"table,photos,media,Photos\n")
         photo = b"media,photos,%d,image/jpeg," + b"ab" * 4_194_000 + b"\n"
         body = photo % 1 + photo % 2
-        body = body[:-1].rsplit(b",", 1)[0] + b"," + b"cd" * ((MOST_BODY_BYTES - len(body[:-1].rsplit(b",", 1)[0]) - 2) // 2)
+        body = (
+            body[:-1].rsplit(b",", 1)[0]
+            + b","
+            + b"cd" * ((MOST_BODY_BYTES - len(body[:-1].rsplit(b",", 1)[0]) - 2) // 2)
+        )
         body += b"\n" * (MOST_BODY_BYTES - len(body))
         for more, wanted in ((b"", "1 ok\n2 refused 11\n"), (b"\n", "")):
             file = pathlib.Path(folder) / "body.csv"
             file.write_bytes(body + more)
             began = time.monotonic()
-            said, _ = run("curl", "-s", "-H", "Content-Type: text/csv", "--data-binary", f"@{file}", "-w", "%{http_code}",
-                          f"http://127.0.0.1:{it.port}/{KEY}/records")
+            said, _ = run(
+                "curl",
+                "-s",
+                "-H",
+                "Content-Type: text/csv",
+                "--data-binary",
+                f"@{file}",
+                "-w",
+                "%{http_code}",
+                f"http://127.0.0.1:{it.port}/{KEY}/records",
+            )
             expect(said[-3:], "413" if more else "200", "the status")
             expect("ok" in said, not more, f"the answers {said[:80]!r} (wanted like {wanted!r})")
             assert time.monotonic() - began < AT_ONCE, "curl waited"
@@ -221,7 +264,11 @@ def check_a_body_that_is_cut_at_each_byte():
         before = it.rows()
         for length in range(len(body)):
             told = it.ask(it.head("POST", "/records", length=len(body)) + body[:length])
-            expect(told, b"HTTP/1.1 400 Bad Request\r\nContent-Length: 0\r\nConnection: close\r\n\r\n", f"the answer behind {length} bytes")
+            expect(
+                told,
+                b"HTTP/1.1 400 Bad Request\r\nContent-Length: 0\r\nConnection: close\r\n\r\n",
+                f"the answer behind {length} bytes",
+            )
         expect(it.rows(), before, "the rows behind cut bodies")
         it.post(body)
         it.end()
@@ -250,7 +297,8 @@ def told_until(connection, is_enough):
 
 
 def check_a_body_that_is_reset_at_each_byte():
-    """A client that resets within the body: nothing is run, 'page fault 96' or nothing is printed, and the desk goes on."""
+    """A client that resets within the body: nothing is run, 'page fault 96' or nothing is printed, and the desk goes
+    on."""
     body = b"row,spots,10,Cut,,0\n"
     with desk() as it:
         it.post(OPENING)
@@ -285,7 +333,11 @@ def check_the_answers_end_at_once():
         it.post(OPENING)
         for _ in range(5):
             body, began = b"row,spots,9,Gate,,0\n", time.monotonic()
-            expect(body_of(it.ask(it.head("POST", "/records", length=len(body)) + body, shut=False)), b"1 ok\n", "the answer")
+            expect(
+                body_of(it.ask(it.head("POST", "/records", length=len(body)) + body, shut=False)),
+                b"1 ok\n",
+                "the answer",
+            )
             took.append(time.monotonic() - began)
         it.end()
     assert min(took) < FIRST_BYTE / 2, f"the end came late: {took}"  # the least, on a busy machine
@@ -369,7 +421,8 @@ def check_kills():
 
 
 def check_journals_have_salts_by_chance():
-    """The salts of two journals differ, by which no frame of one is taken for the other's: a store's seed is by chance."""
+    """The salts of two journals differ, by which no frame of one is taken for the other's: a store's seed is by
+    chance."""
     salts = set()
     for _ in range(2):
         with desk() as it:
@@ -386,7 +439,8 @@ def no_file_past(it, most):
 
 
 def rows_under(folder, most):
-    """Sends four rows to a desk whose files may not grow past a length; how many were answered ok, and whether all were."""
+    """Sends four rows to a desk whose files may not grow past a length; how many were answered ok, and whether all
+    were."""
     it = Running(folder)
     it.post(OPENING)
     no_file_past(it, most)
@@ -405,7 +459,8 @@ def rows_under(folder, most):
 
 
 def check_a_store_that_fails():
-    """At lengths past which no file may grow, a list ends behind its last whole command, and the next desk goes on with what stands."""
+    """At lengths past which no file may grow, a list ends behind its last whole command, and the next desk goes on with
+    what stands."""
     seen, most = set(), 0
     while 4 not in seen:
         most += 4096
@@ -413,7 +468,9 @@ def check_a_store_that_fails():
             whole = rows_under(folder, most)
             again = Running(folder)
             stands = again.rows().count('"id"') - 1
-            assert whole <= stands <= min(4, whole + 1), f"past {most} bytes {whole} lines came, and {stands} rows stand"
+            assert (
+                whole <= stands <= min(4, whole + 1)
+            ), f"past {most} bytes {whole} lines came, and {stands} rows stand"
             again.end()
             seen.add(whole)
     assert {0, 1} < seen, f"each list stopped behind {seen} commands"
@@ -444,9 +501,17 @@ def check_the_key():
             found.add(address[1])
     expect(len(found), 2, "keys of two desks")
     with tempfile.TemporaryDirectory() as folder:
-        for key in ("short", "x" * 65, "0123456789abcde/", "0123456789abcde\u00e9", os.fsdecode(b"0123456789abcde\xff")):
+        for key in (
+            "short",
+            "x" * 65,
+            "0123456789abcde/",
+            "0123456789abcde\u00e9",
+            os.fsdecode(b"0123456789abcde\xff"),
+        ):
             words = [PROGRAM, "desk", f"{folder}/none.mmpkg", "--port", str(it.port), "--count", "1"]
-            done = subprocess.run(words, capture_output=True, env=os.environ | {"MMPKG_KEY": key}, timeout=AT_ONCE, check=False)
+            done = subprocess.run(
+                words, capture_output=True, env=os.environ | {"MMPKG_KEY": key}, timeout=AT_ONCE, check=False
+            )
             expect((done.stdout, done.returncode), (b"refused 11\n", 1), f"a desk by the key {key!r}")
         expect(os.listdir(folder), [], "files")
     return 7
@@ -521,7 +586,8 @@ def check_patience():
 
 
 def check_a_body_that_does_not_come():
-    """A list whose end isn't there behind twenty seconds is not answered as a cut one: it is told as 96, and not run."""
+    """A list whose end isn't there behind twenty seconds is not answered as a cut one: it is told as 96, and not
+    run."""
     body = b"row,spots,10,Cut,,0\nrow,spots,11,Cut,,0\n"
     with desk() as it:
         it.post(OPENING)
@@ -554,7 +620,8 @@ def check_a_client_that_drips():
 
 
 def check_a_client_that_stops_reading():
-    """A client that reads nothing of its answer is let go behind twenty seconds, also where the system took a part of it."""
+    """A client that reads nothing of its answer is let go behind twenty seconds, also where the system took a part of
+    it."""
     with desk() as it:
         it.post(b"table,photos,media,Photos\nmedia,photos,1,image/png," + b"ab" * 4_194_304 + b"\n")
         with socket.socket() as slow:

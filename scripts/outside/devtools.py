@@ -1,4 +1,5 @@
-"""Drives headless Chromium by its DevTools protocol, over a pipe (--remote-debugging-pipe), by Python's standard library alone.
+"""Drives headless Chromium by its DevTools protocol, over a pipe (--remote-debugging-pipe), by Python's standard
+library alone.
 
 What it can stands in browsers.py.
 """
@@ -14,25 +15,60 @@ import time
 from browser_page import ANSWER_SECONDS, Away, BrowserPage
 
 # What is answered while one page goes and another comes.
-AWAY = ("Inspected target navigated or closed", "Execution context was destroyed.", "Cannot find context with specified id",
-        "Cannot find default execution context")
-OPTIONS = ["--headless=new", "--no-sandbox", "--disable-gpu", "--hide-scrollbars", "--force-device-scale-factor=1", "--no-first-run",
-           "--disable-background-networking", "--disable-component-update", "--disable-sync", "--mute-audio", "--remote-debugging-pipe"]
-KEYS = {"Backspace": 8, "Tab": 9, "Enter": 13, "Escape": 27, "Delete": 46, "ArrowLeft": 37, "ArrowUp": 38, "ArrowRight": 39, "ArrowDown": 40, "+": 187, "-": 189}
-TEXTS = {"Enter": "\r", "+": "+", "-": "-"}
-CODES = {"+": "Equal", "-": "Minus"}
+AWAY = (
+    "Inspected target navigated or closed",
+    "Execution context was destroyed.",
+    "Cannot find context with specified id",
+    "Cannot find default execution context",
+)
+OPTIONS = [
+    "--headless=new",
+    "--no-sandbox",
+    "--disable-gpu",
+    "--hide-scrollbars",
+    "--force-device-scale-factor=1",
+    "--no-first-run",
+    "--disable-background-networking",
+    "--disable-component-update",
+    "--disable-sync",
+    "--mute-audio",
+    "--remote-debugging-pipe",
+]
+CAMERA = ["--use-fake-device-for-media-stream", "--use-fake-ui-for-media-stream"]
+KEYS = {
+    "Backspace": 8,
+    "Tab": 9,
+    "Enter": 13,
+    "Escape": 27,
+    "Delete": 46,
+    "ArrowLeft": 37,
+    "ArrowUp": 38,
+    "ArrowRight": 39,
+    "ArrowDown": 40,
+    "+": 187,
+    "-": 189,
+    " ": 32,
+}
+TEXTS = {"Enter": "\r", "+": "+", "-": "-", " ": " "}
+CODES = {"+": "Equal", "-": "Minus", " ": "Space"}
 
 
 class Browser:
     """A Chromium of its own with a new profile; ends with the block that it is made in."""
 
-    def __init__(self, command, profile):
+    def __init__(self, command, profile, camera=False, language="en"):
         to_browser, self.to_browser = os.pipe()
         self.from_browser, from_browser = os.pipe()
         # The browser reads messages from its file 3 and writes them to 4.
-        words = ["bash", "-c", f'exec "$@" 3<&{to_browser} 4>&{from_browser}', "bash", command, *OPTIONS, f"--user-data-dir={profile}"]
-        self.process = subprocess.Popen(words, pass_fds=(to_browser, from_browser), stdin=subprocess.DEVNULL, stdout=subprocess.DEVNULL,
-                                        stderr=subprocess.DEVNULL)
+        more = [*(CAMERA if camera else []), f"--accept-lang={language}", f"--user-data-dir={profile}"]
+        words = ["bash", "-c", f'exec "$@" 3<&{to_browser} 4>&{from_browser}', "bash", command, *OPTIONS, *more]
+        self.process = subprocess.Popen(
+            words,
+            pass_fds=(to_browser, from_browser),
+            stdin=subprocess.DEVNULL,
+            stdout=subprocess.DEVNULL,
+            stderr=subprocess.DEVNULL,
+        )
         os.close(to_browser)
         os.close(from_browser)
         self.pipes = [self.to_browser, self.from_browser]
@@ -98,11 +134,11 @@ class Browser:
         self.pipes = []
 
     def open(self, address, width=1280, height=800, scale=1, touch=False, kept=False, before=None):
-        """Opens an address in a page of its own, which knows nothing of earlier ones: a browser that does opens connections ahead.
+        """Opens an address in a page of its own, which knows nothing of earlier ones: a browser that does opens
+        connections ahead.
 
-        With `kept` the page is of the profile, so that what it keeps is there when the browser is started again. `before` is a script that
-        runs before those of each page that comes there.
-        """
+        With `kept` the page is of the profile, so that what it keeps is there when the browser is started again.
+        `before` is a script that runs before those of each page that comes there."""
         context = None if kept else self.ask("Target.createBrowserContext", disposeOnDetach=True)["browserContextId"]
         of = {} if kept else {"browserContextId": context}
         target = self.ask("Target.createTarget", url="about:blank", **of)["targetId"]
@@ -110,7 +146,9 @@ class Browser:
         page = self.pages[session] = Page(self, session, context, target)
         for domain in ("Page", "Runtime", "Network", "Log"):
             page.ask(f"{domain}.enable")
-        page.ask("Emulation.setDeviceMetricsOverride", width=width, height=height, deviceScaleFactor=scale, mobile=touch)
+        page.ask(
+            "Emulation.setDeviceMetricsOverride", width=width, height=height, deviceScaleFactor=scale, mobile=touch
+        )
         if touch:
             page.ask("Emulation.setTouchEmulationEnabled", enabled=True, maxTouchPoints=5)
         if before:
@@ -135,10 +173,14 @@ class Page(BrowserPage):
         if method == "Network.requestWillBeSent":
             self.asked.append(what["request"]["url"])
         elif method == "Runtime.consoleAPICalled":
-            self.said.append((what["type"], " ".join(str(it.get("value", it.get("description"))) for it in what["args"]), ""))
+            self.said.append(
+                (what["type"], " ".join(str(it.get("value", it.get("description"))) for it in what["args"]), "")
+            )
         elif method == "Runtime.exceptionThrown":
             details = what["exceptionDetails"]
-            self.said.append(("exception", details.get("exception", {}).get("description", details["text"]), details.get("url", "")))
+            self.said.append(
+                ("exception", details.get("exception", {}).get("description", details["text"]), details.get("url", ""))
+            )
         elif method == "Page.javascriptDialogOpening":
             # The page asks whether it may be left.
             self.browser.post("Page.handleJavaScriptDialog", self.session, accept=True)
@@ -187,7 +229,9 @@ class Page(BrowserPage):
     def device_is_at(self, longitude, latitude, accuracy):
         """Has the device tell a place to the page, which may ask for it."""
         of = {"browserContextId": self.context} if self.context else {}
-        self.browser.ask("Browser.grantPermissions", permissions=["geolocation"], origin=self.value("location.origin"), **of)
+        self.browser.ask(
+            "Browser.grantPermissions", permissions=["geolocation"], origin=self.value("location.origin"), **of
+        )
         self.ask("Emulation.setGeolocationOverride", longitude=longitude, latitude=latitude, accuracy=accuracy)
 
     def fill_storage(self, is_full):
@@ -211,7 +255,15 @@ class Page(BrowserPage):
     def drag(self, start, end):
         """Drags from a point to another in steps, and lets go where it stood still."""
         self.move(*start)
-        self.ask("Input.dispatchMouseEvent", type="mousePressed", x=start[0], y=start[1], button="left", buttons=1, clickCount=1)
+        self.ask(
+            "Input.dispatchMouseEvent",
+            type="mousePressed",
+            x=start[0],
+            y=start[1],
+            button="left",
+            buttons=1,
+            clickCount=1,
+        )
         for part in range(1, 9):
             x, y = (begin + (stop - begin) * part / 8 for begin, stop in zip(start, end))
             self.ask("Input.dispatchMouseEvent", type="mouseMoved", x=x, y=y, button="left", buttons=1)
@@ -226,7 +278,9 @@ class Page(BrowserPage):
     def press(self, *keys):
         for key in keys:
             named = {"key": key, "code": CODES.get(key, key), "windowsVirtualKeyCode": KEYS[key]}
-            self.ask("Input.dispatchKeyEvent", type="keyDown", **named, **({"text": TEXTS[key]} if key in TEXTS else {}))
+            self.ask(
+                "Input.dispatchKeyEvent", type="keyDown", **named, **({"text": TEXTS[key]} if key in TEXTS else {})
+            )
             self.ask("Input.dispatchKeyEvent", type="keyUp", **named)
 
     def type(self, text):
@@ -236,6 +290,10 @@ class Page(BrowserPage):
         """Puts fingers down, moves them from place to place, each place a list of points, and takes them up."""
         for number, points in enumerate(places):
             kind = "touchMove" if number else "touchStart"
-            self.ask("Input.dispatchTouchEvent", type=kind, touchPoints=[{"x": x, "y": y, "id": finger} for finger, (x, y) in enumerate(points)])
+            self.ask(
+                "Input.dispatchTouchEvent",
+                type=kind,
+                touchPoints=[{"x": x, "y": y, "id": finger} for finger, (x, y) in enumerate(points)],
+            )
             time.sleep(0.03)
         self.ask("Input.dispatchTouchEvent", type="touchEnd", touchPoints=[])

@@ -1,12 +1,13 @@
 #!/usr/bin/env python3
-"""Names each place where the program's code calls the system for a file or a port, and fails where one stands elsewhere.
+"""Names each place where the program's code calls the system for a file or a port, and fails where one stands
+elsewhere.
 
     scripts/outside/file_calls_check.py      the last line says how many such words stand in how many files
 
 What a clause says of the package's file is of its bytes as the store opened them. No clause tells what another call of
-the system does to a file, before or behind that. So such calls stand in the few places that are listed here, and are read
-there: the length of FILE and of its journal, and what is told of lengths on standard error; the files of a kit's folder, which
-are read once more for what is told of a refusal; the one open of the store, and the port.
+the system does to a file, before or behind that. So such calls stand in the few places that are listed here, and are
+read there: the length of FILE and of its journal, and what is told of lengths on standard error; the files of a kit's
+folder, which are read once more for what is told of a refusal; the one open of the store, and the port.
 """
 
 import pathlib
@@ -43,7 +44,9 @@ PLACES = {
     r"\bset_len\b|\bremove_file\b|\bremove_dir\w*|\bOpenOptions\b": {},
 }
 # What the system's library is called by another name: then no word above would tell a call.
-ALIAS = re.compile(r"\buse\s+(?:::)?(?:std|sqlite|sqlite_std_file)\b[^;]*?\bas\s+\w+|\bextern\s+crate\b|\buse\s+std::\*")
+ALIAS = re.compile(
+    r"\buse\s+(?:::)?(?:std|sqlite|sqlite_std_file)\b[^;]*?\bas\s+\w+|\bextern\s+crate\b|\buse\s+std::\*"
+)
 # Crates that are no part of the program, and the one crate that may stand on what opens files.
 TESTS = re.compile(r"mm_(test_\w+|faults)$")
 OPENER = "mm_files"

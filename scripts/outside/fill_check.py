@@ -1,10 +1,11 @@
 #!/usr/bin/env python3
-"""Fills packages with maps by tools/fill.py, and compares what GDAL finds in their export with the maps. Called by scripts/outside/fill.sh.
+"""Fills packages with maps by tools/fill.py, and compares what GDAL finds in their export with the maps. Called by
+scripts/outside/fill.sh.
 
     MMPKG=out/mmpkg scripts/outside/fill_check.py [--python PYTHON] [WORD ..]
 
-PYTHON is an interpreter with GDAL's modules; WORD picks the checks whose names have it. The last line is 'N passed, M failed'; the exit
-status is 1 where one failed.
+PYTHON is an interpreter with GDAL's modules; WORD picks the checks whose names have it. The last line is 'N passed, M
+failed'; the exit status is 1 where one failed.
 """
 
 import argparse
@@ -106,7 +107,8 @@ def tiles_of(file, table):
 
 
 def check_a_geotiff(folder):
-    """A GeoTIFF of no whole number of tiles comes in as it is, at all zooms, and goes out as large; once more nothing is missing."""
+    """A GeoTIFF of no whole number of tiles comes in as it is, at all zooms, and goes out as large; once more nothing
+    is missing."""
     picture = geotiff(folder, 1500, 1100)
     file = folder / "my map.mmpkg"
     said, told = fill(file, picture)
@@ -128,7 +130,8 @@ def check_a_geotiff(folder):
 
 
 def check_other_systems(folder):
-    """Maps in Web Mercator, in degrees, in thirds of a metre and on the other side of the earth lie where they should, in metres."""
+    """Maps in Web Mercator, in degrees, in thirds of a metre and on the other side of the earth lie where they should,
+    in metres."""
     cases = {
         "mercator": ("EPSG:3857", (1_001_875.4, 6_446_275.8), 2.5, "EPSG:25832"),
         "degrees": ("EPSG:4326", (9, 50.5), 0.00002, "EPSG:25832"),
@@ -152,7 +155,8 @@ def check_other_systems(folder):
 
 
 def check_tiles_of_others(folder):
-    """MBTiles, a GeoPackage's map, and folders of tiles, XYZ and TMS, in metres and in Web Mercator, lie where they should."""
+    """MBTiles, a GeoPackage's map, and folders of tiles, XYZ and TMS, in metres and in Web Mercator, lie where they
+    should."""
     picture = geotiff(folder, 700, 500)
     run("gdal_translate", "-q", "-of", "MBTILES", picture, folder / "map.mbtiles")
     standard_of(picture, folder / "in.gpkg", "Base map")
@@ -224,7 +228,8 @@ def check_a_photo_with_clear_ground(folder):
 
 
 def killed(file, source, size):
-    """Begins to fill a package, and kills that when the journal is as large; answers whether it was still on its way."""
+    """Begins to fill a package, and kills that when the journal is as large; answers whether it was still on its
+    way."""
     before, until = size_of_journal(file), time.monotonic() + PATIENCE
     with subprocess.Popen(
         [FILL, file, source], stdout=subprocess.DEVNULL, env={**os.environ, "MMPKG": PROGRAM}
@@ -273,7 +278,8 @@ def expect_rows_equal(first, second):
 
 
 def check_a_second_map(folder):
-    """A second map and one in another place come into a package that has rows; what stands stays, and another map of the name is refused."""
+    """A second map and one in another place come into a package that has rows; what stands stays, and another map of
+    the name is refused."""
     new_package(folder / "a.mmpkg", border_check.nine_tiles())
     shown = mmpkg("show", folder / "a.mmpkg", "spots")
     picture = geotiff(folder, 600, 450)

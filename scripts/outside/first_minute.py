@@ -1,10 +1,12 @@
 #!/usr/bin/env python3
-"""As a new user: from the installed package to a row with a photo on the map, within a minute. Called by scripts/outside/deb_check.sh.
+"""As a new user: from the installed package to a row with a photo on the map, within a minute. Called by
+scripts/outside/deb_check.sh.
 
     scripts/outside/first_minute.py ROOT
 
-ROOT is the folder of a Debian in which the package is installed; its commands run there, and the browser is this machine's Chromium. Prints how
-long it took. Exit status: 0 it took less than a minute; 1 it took more, or came to nothing.
+ROOT is the folder of a Debian in which the package is installed; its commands run there, and the browser is this
+machine's Chromium. Prints how long it took. Exit status: 0 it took less than a minute; 1 it took more, or came to
+nothing.
 """
 
 import contextlib
@@ -38,7 +40,7 @@ def main(root):
         stack.callback(running.send_signal, signal.SIGTERM)
         address = next(line.split()[-1] for line in running.stdout if line.startswith("The page is http"))
         browser = stack.enter_context(devtools.Browser("chromium", pathlib.Path(name) / "profile"))
-        crew = Crew(browser, address.removesuffix("/media/viewer/1"))
+        crew = Crew(browser, address.split("#")[0].removesuffix("/media/viewer/1"))
         crew.new(title="Spring", note="cold", amount=3, place=(500_500, 5_600_400), photos=[photo])
         crew.wait_until_it_stands()
         crew.open("Spring")

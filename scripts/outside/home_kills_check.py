@@ -20,6 +20,7 @@ import tempfile
 import threading
 
 from checks import PROGRAM, end, expect, is_held, mmpkg, run_checks, wait_until_free
+
 from home_check import (
     HOME, NORTH, OUT, SOUTH, come_home, command_behind, content, do, editions, expect_refused, files_of, hand_out,
     in_use, kept, office_of, patched, rows, run,

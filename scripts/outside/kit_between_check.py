@@ -1,12 +1,14 @@
 #!/usr/bin/env python3
-"""Compares what tools/kit_between.py writes with the rule that its help states, on random packages and on some by hand.
+"""Compares what tools/kit_between.py writes with the rule that its help states, on random packages and on some by
+hand.
 
     MMPKG=out/mmpkg scripts/outside/kit_between_check.py [--seed N] [--rounds N] [WORD ..]
 
-A round makes a package by random lists, changes two copies of it by more of them, takes what turns one into another to a copy, and what one
-changed onto the other. What then stands is compared row by row with what the rule gives, which scripts/model/package_merge.py states once
-more, entry by entry over the dictionaries of the model, without code of the tool. WORD picks the checks whose names have it.
-The last line is 'N passed, M failed'; the exit status is 1 where one failed.
+A round makes a package by random lists, changes two copies of it by more of them, takes what turns one into another to
+a copy, and what one changed onto the other. What then stands is compared row by row with what the rule gives, which
+scripts/model/package_merge.py states once more, entry by entry over the dictionaries of the model, without code of the
+tool. WORD picks the checks whose names have it. The last line is 'N passed, M failed'; the exit status is 1 where one
+failed.
 """
 
 import argparse
@@ -131,7 +133,8 @@ def expect_rows(file, package):
 
 
 def take_in(commands, file, out):
-    """Does the commands that the tool printed on a package; each record and each kit has to be accepted. Returns the editions."""
+    """Does the commands that the tool printed on a package; each record and each kit has to be accepted. Returns the
+    editions."""
     editions = []
     for line in commands.splitlines():
         words = line.split()
@@ -213,7 +216,8 @@ def by_hand(kept, text):
 
 
 def renumbered(after, before, other, out):
-    """AFTER's entries with the numbers that the tool gave: free ones, to new rows and media that collide and nothing else."""
+    """AFTER's entries with the numbers that the tool gave: free ones, to new rows and media that collide and nothing
+    else."""
     numbers = {}
     if (out / "renumbered.csv").exists():
         with open(out / "renumbered.csv", newline="", encoding="utf-8") as opened:
@@ -241,7 +245,8 @@ def with_numbers(key, value, numbers):
 
 
 def expect_theirs(out, told, target, after, result, conflicts):
-    """The kit of the conflicts is accepted behind the others; returns what stands then: of each conflict that it has AFTER's side."""
+    """The kit of the conflicts is accepted behind the others; returns what stands then: of each conflict that it has
+    AFTER's side."""
     commands = [line.strip() for line in told.splitlines() if line.startswith("    ")]
     expect(bool(commands), (out / "conflicts").exists(), "whether there is a kit of conflicts")
     settled = set()
@@ -279,7 +284,8 @@ def entry_of(fields):
 
 
 def expect_between(before, after, other, folder, onto, seen=None, renumber=False, anyway=False):
-    """What the tool writes makes of a copy of OTHER what the rule gives, without a refusal; returns the conflicts, and what was told."""
+    """What the tool writes makes of a copy of OTHER what the rule gives, without a refusal; returns the conflicts, and
+    what was told."""
     out, states = folder / "out", [entries(it.package) for it in (after, before, other)]
     words = [
         *(["--onto", other.file] if onto else []),
@@ -356,7 +362,8 @@ def check_random_packages(folder, given):
 
 
 def one_round(folder, empty, source, number, seen):
-    """A pair, a three, and now and then a pair of which neither came of the other, so that systems may have changed or gone."""
+    """A pair, a three, and now and then a pair of which neither came of the other, so that systems may have changed or
+    gone."""
     before = empty.copy(folder / "before.mmpkg").change(source, [*OPENING, *words_of(source, 45)])
     after, other = (
         before.copy(folder / f"{name}.mmpkg").change(source, words_of(source, 24)) for name in ("after", "other")
@@ -570,7 +577,8 @@ tile turned 0 0 0"""
 
 
 def check_each_conflict(folder, _):
-    """By hand: each way in which two changes don't go together is listed, with the values of all three, and no other."""
+    """By hand: each way in which two changes don't go together is listed, with the values of all three, and no
+    other."""
     before = by_hand(new_package(folder / "before.mmpkg"), BY_HAND)
     after = by_hand(before.copy(folder / "after.mmpkg"), AFTER_BY_HAND)
     other = by_hand(before.copy(folder / "other.mmpkg"), OTHER_BY_HAND)
@@ -594,7 +602,8 @@ CREW_B = "row,spots,4,Gate,,2\nmedia,photos,2,image/jpeg,ffd8ff\nmap,spots_photo
 
 
 def two_crews(folder):
-    """Two crews that both made row 4 with photo 2; the second made a row more, and changed one. The second one's work comes behind the first's."""
+    """Two crews that both made row 4 with photo 2; the second made a row more, and changed one. The second one's work
+    comes behind the first's."""
     before = by_hand(new_package(folder / "before.mmpkg"), CREWS)
     other = by_hand(before.copy(folder / "other.mmpkg"), CREW_A + "row,spots,3,Well,deep,1\n")
     after = by_hand(before.copy(folder / "after.mmpkg"), CREW_B)
@@ -602,7 +611,8 @@ def two_crews(folder):
 
 
 def check_two_crews(folder, _):
-    """What both made is told in other words than what both changed, and the kit of conflicts brings the bytes of the second crew."""
+    """What both made is told in other words than what both changed, and the kit of conflicts brings the bytes of the
+    second crew."""
     before, after, other = two_crews(folder)
     _, told = expect_between(before, after, other, folder, True)
     for line in (
@@ -622,7 +632,8 @@ def check_two_crews(folder, _):
 
 
 def check_one_crew_then_the_next(folder, _):
-    """Behind the commands it is said that they come before the next crew's; where nothing is to be taken in, or by a pair, it isn't."""
+    """Behind the commands it is said that they come before the next crew's; where nothing is to be taken in, or by a
+    pair, it isn't."""
     before, after, other = two_crews(folder)
     said = "next: run these before the next crew's work is reckoned: they suit OTHER as it is now, and no later one"
     words = TOOL, before.file, after.file, "home", folder / "both", "--onto", other.file
@@ -635,7 +646,8 @@ def check_one_crew_then_the_next(folder, _):
 
 
 def check_new_numbers(folder, _):
-    """With --renumber what the second crew made comes in beside the first one's, with its mapping row, and old and new numbers are told."""
+    """With --renumber what the second crew made comes in beside the first one's, with its mapping row, and old and new
+    numbers are told."""
     before, after, other = two_crews(folder)
     conflicts, told = expect_between(before, after, other, folder, True, renumber=True)
     expect(conflicts, [["row", "spots 3"]], "conflicts")
@@ -659,7 +671,8 @@ def check_new_numbers(folder, _):
 
 
 def check_numbers_of_the_page(folder, _):
-    """A row of the page that comes home twice is one row: with --renumber too it is a conflict where it was changed meanwhile."""
+    """A row of the page that comes home twice is one row: with --renumber too it is a conflict where it was changed
+    meanwhile."""
     page = f"row,spots,{LEAST_OF_PAGE + 17}"
     before = by_hand(new_package(folder / "before.mmpkg"), CREWS)
     other = by_hand(before.copy(folder / "other.mmpkg"), f"{page},Oak,Monday,1\n")
@@ -670,7 +683,8 @@ def check_numbers_of_the_page(folder, _):
 
 
 def expect_refused(folder, words, *lines):
-    """The tool refuses with 2 and these lines, and makes nothing; with --anyway it reckons. Returns what it tells then."""
+    """The tool refuses with 2 and these lines, and makes nothing; with --anyway it reckons. Returns what it tells
+    then."""
     told = run(TOOL, *words[:2], "home", folder / "refused", *words[2:], status=2)
     expect(
         told,
@@ -683,7 +697,8 @@ def expect_refused(folder, words, *lines):
 
 
 def check_wrong_order(folder, _):
-    """Packages in the wrong order are refused by the moments of their last change, where their published editions are the same."""
+    """Packages in the wrong order are refused by the moments of their last change, where their published editions are
+    the same."""
     before = by_hand(new_package(folder / "before.mmpkg"), CREWS)
     after = before.copy(folder / "after.mmpkg")
     run(PROGRAM, "run", after.file, "--at", 86400000, given=b"row,spots,4,Oak,,1\n")
@@ -698,7 +713,8 @@ def check_wrong_order(folder, _):
 
 
 def check_editions_that_are_lacking(folder, _):
-    """A copy of another crew as BEFORE, an older one as AFTER, and a package that handed none of them out are refused by their editions."""
+    """A copy of another crew as BEFORE, an older one as AFTER, and a package that handed none of them out are refused
+    by their editions."""
     office = by_hand(new_package(folder / "office.mmpkg"), CREWS + "edition,first\npublish,first\n")
     copies = {}
     for mark in ("out_a_1_zzzzzz", "out_b_2_zzzzzz"):
@@ -743,7 +759,8 @@ def check_words_of_pages(folder, _):
 
 
 def check_rows_that_never_came_home(folder, _):
-    """Rows and media that BEFORE and AFTER have alike, and OTHER hasn't, are named; the line that matters stands before all notes."""
+    """Rows and media that BEFORE and AFTER have alike, and OTHER hasn't, are named; the line that matters stands before
+    all notes."""
     office = by_hand(new_package(folder / "office.mmpkg"), CREWS)
     before = by_hand(
         office.copy(folder / "before.mmpkg"), "row,spots,40,Gate,,1\nrow,spots,41,Oak,,1\nmedia,photos,7,a/b,00\n"
@@ -789,7 +806,8 @@ def check_identifiers_that_swap(folder, _):
 
 
 def check_one_that_is_as_the_other(folder, _):
-    """Between equal packages nothing is written but an empty list, which is told with status 1; other editions and moments are named."""
+    """Between equal packages nothing is written but an empty list, which is told with status 1; other editions and
+    moments are named."""
     before = by_hand(new_package(folder / "before.mmpkg"), "table,a,attributes,One\nrow,a,1,x,,1\n")
     after = by_hand(before.copy(folder / "after.mmpkg"), "edition,draft\nstage,draft,1,row,a,2,,,0\n")
     run(PROGRAM, "run", after.file, "--at", 86400000, given=b"row,a,1,x,,1\n")
@@ -848,7 +866,8 @@ def check_full_list(folder, _):
 
 
 def check_bad_input(folder, _):
-    """No package is told by the program's own line; OUT that stands is not touched, nothing half made is left, and the packages stay."""
+    """No package is told by the program's own line; OUT that stands is not touched, nothing half made is left, and the
+    packages stay."""
     one = by_hand(new_package(folder / "a.mmpkg"), "table,a,attributes,One\nrow,a,1,x,,1\nedition,taken\n")
     two = by_hand(one.copy(folder / "b.mmpkg"), "row,a,2,y,,2\n")
     shutil.copyfile(one.file, folder / "older.mmpkg")

@@ -3,8 +3,9 @@
 
     scripts/outside/make_profile_1.py FILE
 
-The statements are the test's own and run by Python's sqlite3: mmpkg itself makes packages of profile 2 alone. A package whose
-numbers are no whole millimetres, or that holds staged matrices, has no form in profile 1: it is left as it is, with status 1.
+The statements are the test's own and run by Python's sqlite3: mmpkg itself makes packages of profile 2 alone. A package
+whose numbers are no whole millimetres, or that holds staged matrices, has no form in profile 1: it is left as it is,
+with status 1.
 """
 import contextlib
 import pathlib
@@ -13,7 +14,11 @@ import sys
 
 EXTENT = "min_x", "min_y", "max_x", "max_y"
 # The columns that a unit is in, by table.
-COLUMNS = {"gpkg_contents": EXTENT, "gpkg_tile_matrix_set": EXTENT, "gpkg_tile_matrix": ("pixel_x_size", "pixel_y_size")}
+COLUMNS = {
+    "gpkg_contents": EXTENT,
+    "gpkg_tile_matrix_set": EXTENT,
+    "gpkg_tile_matrix": ("pixel_x_size", "pixel_y_size"),
+}
 
 
 def put_back(file):
@@ -21,7 +26,11 @@ def put_back(file):
     with contextlib.closing(sqlite3.connect(pathlib.Path(file).resolve().as_uri() + "?mode=rw", uri=True)) as package:
         (version,) = package.execute("SELECT version FROM mm_profile").fetchone()
         (matrices,) = package.execute("SELECT count(*) FROM mm_pieces WHERE kind = 'matrix'").fetchone()
-        odd = [column for table, column in all_columns() if package.execute(f"SELECT 1 FROM {table} WHERE {column} % 1000 <> 0").fetchone()]
+        odd = [
+            column
+            for table, column in all_columns()
+            if package.execute(f"SELECT 1 FROM {table} WHERE {column} % 1000 <> 0").fetchone()
+        ]
         if version != 2 or matrices or odd:
             return False
         for table, column in all_columns():

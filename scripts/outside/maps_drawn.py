@@ -1,4 +1,5 @@
-"""Maps that lie behind a package, drawn here and not by GDAL: what the page asks of tools/maps.py is kept, and can wait."""
+"""Maps that lie behind a package, drawn here and not by GDAL: what the page asks of tools/maps.py is kept, and can
+wait."""
 
 import contextlib
 import pathlib

@@ -18,7 +18,13 @@ ROWS = {"title": ogr.OFTString, "note": ogr.OFTString, "amount": ogr.OFTInteger6
 ONE = (("Oak", "old", 7), "POINT (500000.5 5600000.25)")
 NONE = ((None, None, None), "POINT (500001 5600001)")
 DEGREES = (("Oak", "old", 7), "POINT (9.5 50.5)")
-STONES = {"name": ogr.OFTString, "height": ogr.OFTReal, "kept by": ogr.OFTString, "day": ogr.OFTDate, "photo": ogr.OFTBinary}
+STONES = {
+    "name": ogr.OFTString,
+    "height": ogr.OFTReal,
+    "kept by": ogr.OFTString,
+    "day": ogr.OFTDate,
+    "photo": ogr.OFTBinary,
+}
 STONE = (("S 1", 12.5, 'the "Post"', "2026/01/02", None), "POINT (500000.5 5600000.25)")
 OTHER = {"it's": ogr.OFTString, 'a "b"': ogr.OFTInteger, "select": ogr.OFTReal}
 

@@ -13,7 +13,21 @@ from browser_page import Away
 from checks import mmpkg
 from crew_page import STANDS, Gone
 from page_told import FIELDS, Act, Row, Told, tag_of
-from page_world import CLOCK, STONES, SYSTEM, Package, Port, Tab, by, is_open, row_record, stone
+from page_world import (
+    CLOCK,
+    KIND,
+    KINDS,
+    LEAST_FILE,
+    STONES,
+    SYSTEM,
+    Package,
+    Port,
+    Tab,
+    by,
+    is_open,
+    row_record,
+    stone,
+)
 from stranger import ANSWERS
 
 SETTLE_SECONDS = 90
@@ -68,7 +82,8 @@ class Day:
         return None
 
     def step(self, name, a, b):
-        """Does a step; it ends where the browser ends in it, or where the page has taken away what was to be pressed."""
+        """Does a step; it ends where the browser ends in it, or where the page has taken away what was to be
+        pressed."""
         try:
             getattr(self, f"do_{name}")(a, b)
         except Gone:
@@ -160,7 +175,8 @@ class Day:
             tab.is_there(20 if self.port.is_open else 2)
 
     def keep_form(self, tab, act):
-        """Keeps what was typed, and since when; all tabs have one storage, and of a full one nothing has to come back."""
+        """Keeps what was typed, and since when; all tabs have one storage, and of a full one nothing has to come
+        back."""
         is_full = any(it.is_full for it in filter(None, self.tabs))
         tab.form, tab.since = act, math.inf if is_full else time.monotonic()
         self.forms.append((tab.fields(), act))
@@ -168,7 +184,7 @@ class Day:
     def saved(self, tab):
         """Saves a tab's form, whose act is told as sure when the form is closed."""
         form, tab.form = tab.form, None
-        act = dataclasses.replace(form, sure=False)
+        act = dataclasses.replace(form, sure=False, by=tab.crew())
         self.told.acts.append(act)
         if tab.save():
             act.sure = True
@@ -183,14 +199,25 @@ class Day:
         if not tab.open_fresh():
             return None
         for it in FIELDS:
-            tab.write(it, str(getattr(row, it)))
+            tab.write_field(it, str(getattr(row, it)))
+        row.note += self.choose_kind(tab, row.amount, "")
         act = Act(tag, {it: getattr(row, it) for it in FIELDS}, None, row.title, self.add_photos(tab, photos))
         self.keep_form(tab, act)
         return act
 
+    def choose_kind(self, tab, number, before):
+        """Chooses a kind for two of three numbers, another than before, and answers the word that the note has then."""
+        if number % 3 == 0:
+            return before
+        others = [it for it in KINDS if before != f" kind={it}"]
+        chosen = others[number % len(others)]
+        tab.choose_kind(chosen)
+        return f" kind={chosen}"
+
     def add_photos(self, tab, count):
-        """Puts photos into a form, and answers their sizes, which no others have."""
-        sizes = tuple((self.another() - 60, 30) for _ in range(count))
+        """Puts photos into a form, or files of other kinds, and answers their sizes, which no others have."""
+        numbers = [self.another() for _ in range(count)]
+        sizes = tuple((it - 60, 30) if it % 3 else (0, LEAST_FILE + it) for it in numbers)
         if sizes:
             tab.page.choose_files(by("pictures"), [self.world.photo(it) for it in sizes])
         return sizes
@@ -233,9 +260,13 @@ class Day:
     def type_field(self, tab, act, base, field):
         number = self.another()
         place = base.note.split(" ")[0] + " " if base.note.startswith("@") else ""
-        act.new[field] = {"title": f"{act.tag} t{number}", "note": f"{place}n{number}", "amount": number}[field]
+        typed = {"title": f"{act.tag} t{number}", "note": f"n{number}", "amount": str(number)}[field]
+        tab.write_field(field, typed)
+        if field == "note":
+            before = KIND.search(base.note)
+            typed = f"{place}{typed}{self.choose_kind(tab, number, before[0] if before else '')}"
+        act.new[field] = number if field == "amount" else typed
         act.name = act.new.get("title", base.title)
-        tab.write(field, {"title": act.name, "note": f"n{number}", "amount": str(number)}[field])
 
     def do_change(self, a, b):
         tab = self.tab(a)
@@ -378,8 +409,21 @@ class Day:
             tab.is_full = b % 2 == 0
             tab.page.fill_storage(tab.is_full)
 
+    def do_name(self, a, b):
+        """The crew tells its name, from then on in all tabs of the browser."""
+        tab = self.tab(a, free=False)
+        if tab:
+            tab.name_crew(("Ada", "North 2")[b % 2])
+
+    def do_switch(self, a, b):
+        """A table is switched on the map, or off: nothing that was typed or saved goes with it."""
+        tab = self.tab(a, free=False)
+        if tab:
+            tab.switch_table()
+
     def do_clock(self, a, b):
         tab = self.tab(a, free=False)
+        self.told.is_timed = False
         if tab:
             tab.page.value(CLOCK % ((a % 41 - 20) * 10 ** (b % 11)))
 
@@ -410,6 +454,7 @@ class Day:
             field = FIELDS[b // 7 % 3]
             base, new = {it: getattr(row, it) for it in FIELDS}, self.another()
             value = {"title": f"{tag} t{new}", "note": f"n{new}", "amount": new}[field]
+            self.told.unsigned.add(tag)  # as a client does that knows nothing of who saved a row
             self.office(
                 Act(tag, {field: value}, base, row.title, crew=False), row_record(number, Row(**{**base, field: value}))
             )

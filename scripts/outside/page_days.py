@@ -1,16 +1,17 @@
 #!/usr/bin/env python3
-"""Random days of a crew at the page of 'mmpkg desk': forms, photos, two tabs, kills, strangers, an office.
+"""Random days of a crew at the page of 'mmpkg desk': forms, choices, photos, PDF, sound, names, two tabs, kills, an
+office.
 
     MMPKG=out/mmpkg scripts/outside/page_days.py [--browser chromium | firefox-esr] [--seed N] [--days N] [--seconds N]
                                                  [--day 'STEPS'] [--all]
 
-A day is a list of steps, made from the seed and the day's number. Beside it page_told.py keeps what the crew was
-told; behind each step, and in the end, nothing that was shown as standing may be missing or stand twice, nothing that
-was saved or typed may be gone, nobody's work overwritten unsaid, and the package is whole. Of a day that went wrong
-steps are dropped as long as it goes wrong still, and the shortest is printed, to be gone through again by --day.
---days is how many (8), --seconds when no more are begun. Fixed days come first, and all of them; steps and fixed days
-that are known to go wrong are named, and tried with --all. The last line is 'N passed, M failed'; the exit status is
-1 where one failed.
+A day is a list of steps, made from the seed and the day's number. Beside it page_told.py keeps what the crew was told;
+behind each step, and in the end, nothing that was shown as standing may be missing or stand twice, nothing that was
+saved or typed may be gone, nobody's work overwritten unsaid, and the package is whole. Of a day that went wrong steps
+are dropped as long as it goes wrong still, and the shortest is printed, to be gone through again by --day. --days is
+how many (8), --seconds when no more are begun. Fixed days come first, and all of them; steps and fixed days that are
+known to go wrong are named, and tried with --all. The last line is 'N passed, M failed'; the exit status is 1 where one
+failed.
 """
 
 import argparse
@@ -31,7 +32,7 @@ STEPS = {
     "new": 10, "change": 12, "type": 8, "save": 8, "leave": 2, "remove": 4, "half_remove": 2, "typed_place": 3,
     "kill": 6, "start": 8, "kill_soon": 4, "hang": 2, "stranger": 5, "kill_browser": 2, "kill_browser_soon": 2,
     "open_tab": 5, "close_tab": 2, "reload": 3, "office_change": 6, "office_new": 1, "office_remove": 2, "keep": 2,
-    "replace": 2, "storage": 2, "clock": 2, "pause": 4, "decide": 3, "again": 3,
+    "replace": 2, "storage": 2, "clock": 2, "pause": 4, "decide": 3, "again": 3, "name": 4, "switch": 2,
     "end": 2,
 }  # fmt: skip
 # By its name, the steps of a day that went wrong once.

@@ -5,9 +5,10 @@
     apt-get install chromium
     scripts/outside/page_map.py [--program out/mmpkg] [--browser chromium] [--port 18081] [--keep FOLDER]
 
-Nine tiles of one colour each are put into a package, and the page is served. A file of HTML of this script's own shows them as images
-whose addresses are the page's. Headless Chromium takes a screenshot, which is read here and compared with the nine colours at the
-middle of each tile. The PNG files are written and read by Python's zlib, which shares no code with this repository.
+Nine tiles of one colour each are put into a package, and the page is served. A file of HTML of this script's own shows
+them as images whose addresses are the page's. Headless Chromium takes a screenshot, which is read here and compared
+with the nine colours at the middle of each tile. The PNG files are written and read by Python's zlib, which shares no
+code with this repository.
 """
 
 import argparse
@@ -21,9 +22,15 @@ import zlib
 
 SIDE = 64
 COLOURS = [
-    (230, 25, 75), (60, 180, 75), (255, 225, 25),
-    (0, 130, 200), (245, 130, 48), (145, 30, 180),
-    (70, 240, 240), (240, 50, 230), (128, 128, 0),
+    (230, 25, 75),
+    (60, 180, 75),
+    (255, 225, 25),
+    (0, 130, 200),
+    (245, 130, 48),
+    (145, 30, 180),
+    (70, 240, 240),
+    (240, 50, 230),
+    (128, 128, 0),
 ]
 
 
@@ -33,8 +40,12 @@ def chunk(kind, data):
 
 def png_of(colour):
     rows = (b"\x00" + bytes(colour) * SIDE) * SIDE
-    return (b"\x89PNG\r\n\x1a\n" + chunk(b"IHDR", struct.pack(">IIBBBBB", SIDE, SIDE, 8, 2, 0, 0, 0))
-            + chunk(b"IDAT", zlib.compress(rows)) + chunk(b"IEND", b""))
+    return (
+        b"\x89PNG\r\n\x1a\n"
+        + chunk(b"IHDR", struct.pack(">IIBBBBB", SIDE, SIDE, 8, 2, 0, 0, 0))
+        + chunk(b"IDAT", zlib.compress(rows))
+        + chunk(b"IEND", b"")
+    )
 
 
 def unfiltered(kind, line, above, step):
@@ -59,8 +70,8 @@ def read_png(data):
     """The pixels of a PNG with 8 bits a channel, by row."""
     at, packed = 8, b""
     while at < len(data):
-        length, kind = struct.unpack(">I4s", data[at:at + 8])
-        body = data[at + 8:at + 8 + length]
+        length, kind = struct.unpack(">I4s", data[at : at + 8])
+        body = data[at + 8 : at + 8 + length]
         if kind == b"IHDR":
             width, height, depth, colour = struct.unpack(">IIBB", body[:10])
         elif kind == b"IDAT":
@@ -71,8 +82,8 @@ def read_png(data):
     raw, rows, above = zlib.decompress(packed), [], bytearray(width * step)
     for row in range(height):
         start = row * (width * step + 1)
-        above = unfiltered(raw[start], bytearray(raw[start + 1:start + 1 + width * step]), above, step)
-        rows.append([tuple(above[pixel * step:pixel * step + 3]) for pixel in range(width)])
+        above = unfiltered(raw[start], bytearray(raw[start + 1 : start + 1 + width * step]), above, step)
+        rows.append([tuple(above[pixel * step : pixel * step + 3]) for pixel in range(width)])
     return rows
 
 
@@ -90,7 +101,9 @@ def records():
 def html(port):
     images = "".join(
         f'<img style="position:absolute;left:{number % 3 * SIDE}px;top:{number // 3 * SIDE}px" '
-        f'src="http://127.0.0.1:{port}/tiles/base/0/{number % 3}/{number // 3}">' for number in range(9))
+        f'src="http://127.0.0.1:{port}/tiles/base/0/{number % 3}/{number // 3}">'
+        for number in range(9)
+    )
     return f'<!doctype html><body style="margin:0;background:#ffffff">{images}</body>'
 
 
@@ -105,16 +118,35 @@ def main():
     with tempfile.TemporaryDirectory() as name:
         folder = pathlib.Path(name)
         subprocess.run([program, "init", folder / "a.mmpkg"], check=True, stdout=subprocess.DEVNULL)
-        subprocess.run([program, "run", folder / "a.mmpkg"], input=records().encode(), check=True, stdout=subprocess.DEVNULL)
+        subprocess.run(
+            [program, "run", folder / "a.mmpkg"], input=records().encode(), check=True, stdout=subprocess.DEVNULL
+        )
         (folder / "map.html").write_text(html(given.port))
         # More connections than tiles: a browser may open some that it doesn't use. The service is ended here.
-        served = subprocess.Popen([program, "serve", folder / "a.mmpkg", "--port", str(given.port), "--count", "1000"], stdout=subprocess.PIPE)
+        served = subprocess.Popen(
+            [program, "serve", folder / "a.mmpkg", "--port", str(given.port), "--count", "1000"], stdout=subprocess.PIPE
+        )
         assert served.stdout.readline().startswith(b"serving ")
         try:
-            subprocess.run([given.browser, "--headless=new", "--no-sandbox", "--disable-gpu", "--hide-scrollbars", "--force-device-scale-factor=1",
-                            f"--user-data-dir={folder / 'profile'}", f"--window-size={3 * SIDE},{3 * SIDE + 200}", "--virtual-time-budget=20000",
-                            f"--screenshot={folder / 'shot.png'}", f"file://{folder / 'map.html'}"], check=True, stdout=subprocess.DEVNULL,
-                           stderr=subprocess.DEVNULL, timeout=120)
+            subprocess.run(
+                [
+                    given.browser,
+                    "--headless=new",
+                    "--no-sandbox",
+                    "--disable-gpu",
+                    "--hide-scrollbars",
+                    "--force-device-scale-factor=1",
+                    f"--user-data-dir={folder / 'profile'}",
+                    f"--window-size={3 * SIDE},{3 * SIDE + 200}",
+                    "--virtual-time-budget=20000",
+                    f"--screenshot={folder / 'shot.png'}",
+                    f"file://{folder / 'map.html'}",
+                ],
+                check=True,
+                stdout=subprocess.DEVNULL,
+                stderr=subprocess.DEVNULL,
+                timeout=120,
+            )
         finally:
             served.terminate()
             served.wait()

@@ -14,7 +14,8 @@ import re
 
 PAGE = pathlib.Path(__file__).resolve().parent.parent.parent / "tools" / "page"
 # The page's state, and the module that writes it; within a form's work that form is 'now'.
-OWNERS = {"map": "map.js", "shown": "map.js", "rows": "rows.js", "form": "form.js", "now": "form.js", "outbox": "outbox.js"}
+OWNERS = {"map": "map.js", "shown": "map.js", "rows": "rows.js", "form": "form.js", "now": "form.js", "outbox": "outbox.js",
+          "tracked": "mine.js"}  # fmt: skip
 FUNCTION = re.compile(r"(?m)^(?:export )?(?:async )?function (\w+)")
 DECLARED = re.compile(r"(?m)^(?:export )?(const|let) (.*)")
 NAMED = re.compile(r"(?:^|, )(\w+) = (new (?:Map|Set|WeakMap)\b|\{\};|\[\];)?")

@@ -12,12 +12,14 @@ FIELDS = ("title", "note", "amount")
 
 @dataclasses.dataclass
 class Row:
-    """A row as the package has it, with the sizes of its photos."""
+    """A row as the package has it, with the sizes of its photos and files, and who saved it; its note doesn't tell
+    that."""
 
     title: str
     note: str
     amount: int
     photos: list = dataclasses.field(default_factory=list)
+    by: str = ""
 
 
 @dataclasses.dataclass
@@ -26,7 +28,8 @@ class Act:
 
     `new` has the fields that it writes, and is None where it removes the row; `base` is what was seen of it before,
     None of a new row. `name` is what the page lists it by. One that isn't `sure` may have come to nothing: the browser
-    ended before the page had closed the form. One that is `past` stood in a package that was put away for another.
+    ended before the page had closed the form. One that is `past` stood in a package that was put away for another. `by`
+    is the crew's name, as the page showed it when it was saved; empty where it had none.
     """
 
     tag: str
@@ -37,6 +40,7 @@ class Act:
     crew: bool = True
     sure: bool = True
     past: bool = False
+    by: str = ""
 
 
 def tag_of(title):
@@ -50,6 +54,8 @@ class Told:
         self.acts = []
         self.unclear = set()  # tags of rows of which the crew has decided, and nobody knows on which act
         self.past_photos = set()
+        self.unsigned = set()  # tags of rows that an office wrote without telling who
+        self.is_timed = True  # no clock was wrong: a row that is saved by one has neither a name nor a moment
 
     def of(self, tag):
         return [it for it in self.acts if it.tag == tag]
@@ -135,6 +141,7 @@ class Told:
                 for it in FIELDS
                 if getattr(row, it) not in known[it]
             ]
+            found += self.wrong_name(tag, row, values)
         for act in self.of(tag):
             if not act.sure or act.past or (act.crew and any(act.name in it for it in listed)):
                 continue
@@ -147,6 +154,18 @@ class Told:
                     for it in missing
                 ]
         return found
+
+    def wrong_name(self, tag, row, values):
+        """Where who saved a row isn't as it has to be: an act that wrote its note has its crew's name, or a later
+        one's."""
+        acts = [it for it in self.of(tag) if it.crew and it.new]
+        names = {it.by for it in acts}
+        if row.by and row.by not in names:
+            return [f"{tag} was saved by {row.by!r}, and {sorted(names)} have saved it"]
+        wrote = any(it.new.get("note") == row.note and self.stands(it, row, values) for it in acts)
+        if wrote and self.is_timed and tag not in self.unsigned and "" not in names and not row.by:
+            return [f"{tag} tells nobody who saved it, and {sorted(names)} have"]
+        return []
 
     def words(self, act):
         what = "the removal" if act.new is None else ", ".join(f"{field} {value!r}" for field, value in act.new.items())

@@ -75,6 +75,27 @@ def check_what_nobody_wrote(_):
     )
 
 
+def check_who_saved_a_row(_):
+    """An act that wrote the note has a crew's name there; another's name, or none, is told; not where an office wrote
+    it."""
+    day = told(
+        Act("S1", {"note": "n3"}, dict(SEEN), "S1 t1", by="Ada"),
+        Act("S1", {"amount": 2}, {**SEEN, "note": "n3"}, "S1 t1", by="Ben"),
+    )
+    for by in ("Ada", "Ben"):
+        expect(day.wrong({"S1": [Row("S1 t1", "n3", 2, by=by)]}, []), [], "what stands")
+    expect_wrong(
+        day.wrong({"S1": [Row("S1 t1", "n3", 2)]}, []), ["S1 tells nobody who saved it, and ['Ada', 'Ben'] have"]
+    )
+    expect_wrong(
+        day.wrong({"S1": [Row("S1 t1", "n3", 2, by="Cid")]}, []),
+        ["S1 was saved by 'Cid', and ['Ada', 'Ben'] have saved it"],
+    )
+    day.unsigned.add("S1")
+    expect(day.wrong({"S1": [Row("S1 t1", "n3", 2)]}, []), [], "what an office wrote")
+    expect(told(change(note="n3")).wrong({"S1": [Row("S1 t1", "n3", 1)]}, []), [], "what a crew without a name wrote")
+
+
 def check_the_last_of_two_that_wins(_):
     """The second form hadn't seen the first's value, and writes the whole row, or another value of the same field."""
     day = told(change(amount=2), change(note="n3"))

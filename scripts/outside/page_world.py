@@ -18,7 +18,7 @@ import time
 
 import browsers
 from checks import expect, mmpkg
-from crew_page import KEY, STANDS, Seat, press_at_rest
+from crew_page import IS_KEPT, KEY, STANDS, Seat, press_at_rest
 from page_told import Row, tag_of
 from stranger import Stranger
 from viewer_package import PYRAMIDS, Pyramid, new_package, picture, record, take_in
@@ -34,6 +34,9 @@ SYSTEM = 25832
 BASE = Pyramid("base", "Base map", SYSTEM, 500_000, 5_601_024, "two", PYRAMIDS[0].zooms[:2])
 PLAN = Pyramid("plan", "Plan", 7, 0, 128, "two", PYRAMIDS[0].zooms[1:2])
 STONES = 6
+# What a row's field has to choose from, and a word of its note that tells which it is.
+KINDS = ("oak", "elm", "ash")
+KIND = re.compile(r" kind=(\w+)")
 # A program that doesn't answer is asked again after 4 s, which a day hasn't.
 SOONER = """(at => {
   window.setTimeout = (act, wait, ...more) => at(act, wait > 3000 && wait < 4500 ? 400 : wait, ...more);
@@ -41,6 +44,8 @@ SOONER = """(at => {
 JOINED = "in the package, joined"
 LEFT = "and not saved"
 BEHIND = "waits for the one above of its row"
+# Who saved a row, and when, behind all else of its note.
+SIGNED = re.compile(r'(?:^| )by=("[^"]*"|[^ ]+) at=[0-9]{4}-[0-9]{2}-[0-9]{2}T[0-9:]{8}Z$')
 # What a form says that came back by itself, before or behind a press that was to open another.
 CAME_BACK = ("This wasn't saved yet", "Save or close this row first")
 CLOCK = "Date.now = () => performance.timeOrigin + performance.now() + %d; 0"
@@ -62,9 +67,13 @@ def content():
         ["table", "photos", "media", "Photos"],
         ["relation", "spots_photos", "spots", "photos", "media"],
         ["relation", "owners_spots", "owners", "spots", "simple_attributes"],
+        ["table", "history", "attributes", "History"],
+        ["relation", "spots_history", "spots", "history", "simple_attributes"],
+        ["table", "forms", "attributes", "Forms"],
+        ["row", "forms", 1, "spots.kind", f"kind=choice choices={'|'.join(KINDS)}", 1],
     ]
     rows = [["row", "spots", it, stone(it).title, stone(it).note, it] for it in range(1, STONES + 1)]
-    more = [["row", "owners", 1, "Ada", "", 0], ["map", "owners_spots", 1, STONES]]
+    more = [["row", "owners", 1, "Ada", f"@{SYSTEM}:500800/5600500", 0], ["map", "owners_spots", 1, STONES]]
     return "".join([*map(record, lines), BASE.records(), PLAN.records(), *map(record, [*tables, *rows, *more])])
 
 
@@ -79,6 +88,12 @@ def size_of(data):
         at += 2 + struct.unpack(">H", data[at + 2 : at + 4])[0]
     high, wide = struct.unpack(">HH", data[at + 5 : at + 9])
     return wide, high
+
+
+def told_row(title, note, amount, sizes):
+    """A row of the package, with who saved it beside its note."""
+    signed = SIGNED.search(note)
+    return Row(title, SIGNED.sub("", note), amount, sizes, signed[1].strip('"') if signed else "")
 
 
 class Package:
@@ -117,7 +132,7 @@ class Package:
         rows, numbers = {}, {}
         for number, *values in found:
             sizes = [size_of(data) for of, data in photos if of == number]
-            rows.setdefault(tag_of(values[0]), []).append(Row(*values, sizes))
+            rows.setdefault(tag_of(values[0]), []).append(told_row(*values, sizes))
             numbers[tag_of(values[0])] = number
         return rows, numbers
 
@@ -231,8 +246,8 @@ class Tab:
         return self.page.is_so(f"!window.wasBefore && !!{by('state')} && {by('state')}.innerText !== ''")
 
     def reload(self):
-        """Loads the page again: until the other comes this one is none any more."""
-        self.page.is_so("window.wasBefore = true")
+        """Loads the page again, once what was typed is kept: until the other comes this one is none any more."""
+        self.page.is_so(f"window.wasBefore = true, {IS_KEPT}")
         self.page.reload()
 
     def text(self, element):
@@ -289,6 +304,36 @@ class Tab:
         else:
             self.page.press("Delete")
 
+    def write_field(self, field, text):
+        """Writes a field of a row: where the office has laid out fields the note's text has an element of its own."""
+        self.write("text" if field == "note" else field, text)
+
+    def choose_kind(self, kind):
+        """Presses a choice of a field: it is taken, or taken back."""
+        self.press(f"([...{by('fields')}.querySelectorAll('button')].find(it => it.innerText === '{kind}'))")
+
+    def crew(self):
+        """The crew's name, as the page shows it; empty where it has none."""
+        told = self.text("whoever")
+        return told.removeprefix("Crew: ") if told.startswith("Crew: ") else ""
+
+    def name_crew(self, name):
+        self.page.value(f"{by('who')}.open = true, 0")
+        self.write("signer", name)
+        self.page.press("Tab")
+        assert self.within(lambda: self.crew() == name), f"the crew is {self.crew()!r}"
+
+    def switch_table(self):
+        """Switches a table on the map, or off, that isn't worked on, and answers whether there is one."""
+        self.page.value(f"{by('tabled')}.open = true, 0")
+        box = f"({by('legend')}.querySelector('input:enabled'))"
+        if not self.page.value(f"{box} !== null"):
+            return False
+        before = self.page.value(f"{box}.checked")
+        self.press(f"({by('legend')}.querySelector('input:enabled'))")
+        assert self.within(lambda: self.page.value(f"{box}.checked") != before), "a table can't be switched on the map"
+        return True
+
     def choose_map(self, table):
         choose = f"it.value = '{table}'; it.dispatchEvent(new Event('change', {{ bubbles: true }}));"
         self.page.value(f"(it => {{ {choose} }})({by('pyramids')}); 0")
@@ -312,12 +357,17 @@ class Tab:
         if not self.page.value(f"{it} !== undefined"):
             return False
         self.press(f"({it})")
-        return self.within(lambda: self.has_form() and tag_of(self.fields().title) == tag) and not self.came_back()
+        is_open = self.within(lambda: self.has_form() and tag_of(self.fields().title) == tag)
+        return is_open and self.has_fields() and not self.came_back()
 
     def open_fresh(self):
         """Opens the form of a new row, and answers whether it is there, and none that came back meanwhile."""
         self.press("fresh")
-        return self.within(self.has_form) and not self.came_back()
+        return self.within(self.has_form) and self.has_fields() and not self.came_back()
+
+    def has_fields(self):
+        """Whether the form has what the office laid out, which a page has once it has read that."""
+        return self.within(lambda: self.page.value(f"!{by('fields')}.hidden"))
 
     def came_back(self):
         return self.text("told").startswith(CAME_BACK)
@@ -369,6 +419,18 @@ class Tab:
         return text.startswith(STANDS) or not is_sending
 
 
+# By the end of a file's name what is in it, but for blanks: a PDF and a sound by their heads, a line and a track.
+FILES = {
+    "pdf": b"%PDF-1.4\n",
+    "wav": b"RIFF\0\0\0\0WAVEfmt ",
+    "geojson": b'{"type":"Feature","geometry":{"type":"LineString","coordinates":[[9.005,50.552],[9.006,50.553]]},'
+    b'"properties":{}}',
+    "gpx": b'<gpx version="1.1" creator="day" xmlns="http://www.topografix.com/GPX/1/1"><trk><trkseg>'
+    b'<trkpt lat="50.552" lon="9.005"/><trkpt lat="50.553" lon="9.006"/></trkseg></trk></gpx>',
+}
+LEAST_FILE = max(map(len, FILES.values()))
+
+
 class World:
     """The browser and the first package, which all days share."""
 
@@ -403,10 +465,12 @@ class World:
         self.browser = None
 
     def photo(self, size):
-        """A file with a picture of a size, which tells it from others."""
-        file = self.folder / f"{size[0]}.png"
+        """A file with a picture of a size, which tells it from others; of no width another kind of so many bytes."""
+        wide, high = size
+        kind = "png" if wide else sorted(FILES)[high % len(FILES)]
+        file = self.folder / f"{wide or high}.{kind}"
         if not file.exists():
-            file.write_bytes(picture(*size, (size[0] % 256, 120, 60)))
+            file.write_bytes(picture(*size, (wide % 256, 120, 60)) if wide else FILES[kind].ljust(high, b" "))
         return file
 
     def new_folder(self):

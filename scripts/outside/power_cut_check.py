@@ -3,8 +3,9 @@
 
     power_cut_check.py ROOM CUTS SEED
 
-ROOM has Debian's kernel in ROOM/kernel. Each cut has a list of its own; the answers that came before it are those of a model in plain
-Python, and the tables of the file are those of the model's package behind the last answered command, or behind the one after it.
+ROOM has Debian's kernel in ROOM/kernel. Each cut has a list of its own; the answers that came before it are those of a
+model in plain Python, and the tables of the file are those of the model's package behind the last answered command, or
+behind the one after it.
 """
 import itertools
 import pathlib
@@ -25,7 +26,8 @@ from package_records import Refused, read_command, records  # noqa: E402
 from package_views import query_of, table_rows  # noqa: E402
 from random_records import OPENING, Author  # noqa: E402
 
-# How many records a list has, how long the machine may boot, and at most how long behind the first answer the power is cut, in seconds.
+# How many records a list has, how long the machine may boot, and at most how long behind the first answer the power is
+# cut, in seconds.
 RECORDS, BOOT, LONGEST_CUT = 6000, 600, 7.0
 MOMENT = 951868800000
 DISK_BYTES = 128 << 20
@@ -88,7 +90,11 @@ def first_files(room, kernel, system):
     (root / "init").chmod(0o755)
     names = b"\0".join(bytes(it.relative_to(root)) for it in root.rglob("*"))
     packed = room / f"first_{system}.cpio"
-    packed.write_bytes(subprocess.run(["cpio", "-0", "-o", "-H", "newc", "--quiet"], input=names, cwd=root, capture_output=True, check=True).stdout)
+    packed.write_bytes(
+        subprocess.run(
+            ["cpio", "-0", "-o", "-H", "newc", "--quiet"], input=names, cwd=root, capture_output=True, check=True
+        ).stdout
+    )
     return packed
 
 
@@ -123,9 +129,13 @@ class Machine:
         folder.mkdir()
         for name in (FILE, FILE + "-wal"):
             if self.system == "ext4":
-                subprocess.run(["debugfs", "-R", f"dump /{name} {folder / name}", self.disk], capture_output=True, check=True)
+                subprocess.run(
+                    ["debugfs", "-R", f"dump /{name} {folder / name}", self.disk], capture_output=True, check=True
+                )
             else:
-                subprocess.run(["mcopy", "-n", "-i", self.disk, "::/" + name, folder / name], capture_output=True, check=False)
+                subprocess.run(
+                    ["mcopy", "-n", "-i", self.disk, "::/" + name, folder / name], capture_output=True, check=False
+                )
         return folder
 
     def begin(self, what, length=0):
@@ -133,10 +143,32 @@ class Machine:
         options = "-o,data=ordered" if self.system == "ext4" else "-o,iocharset=ascii"
         words = f"console=ttyS0 quiet loglevel=1 edd=off panic=-1 mm_system={self.system} mm_do={what} mm_length={length} mm_at={MOMENT}"
         return subprocess.Popen(
-            ["qemu-system-x86_64", "-m", "256", "-nographic", "-no-reboot", "-nic", "none", "-accel", "tcg", "-cpu", "max",
-             "-kernel", self.image, "-initrd", self.packed, "-append", f"{words} mm_options={options}",
-             "-drive", f"file={self.disk},format=raw,if=virtio", "-drive", f"file={self.list},format=raw,if=virtio,readonly=on"],
-            stdin=subprocess.DEVNULL, stdout=subprocess.PIPE, stderr=subprocess.STDOUT,
+            [
+                "qemu-system-x86_64",
+                "-m",
+                "256",
+                "-nographic",
+                "-no-reboot",
+                "-nic",
+                "none",
+                "-accel",
+                "tcg",
+                "-cpu",
+                "max",
+                "-kernel",
+                self.image,
+                "-initrd",
+                self.packed,
+                "-append",
+                f"{words} mm_options={options}",
+                "-drive",
+                f"file={self.disk},format=raw,if=virtio",
+                "-drive",
+                f"file={self.list},format=raw,if=virtio,readonly=on",
+            ],
+            stdin=subprocess.DEVNULL,
+            stdout=subprocess.PIPE,
+            stderr=subprocess.STDOUT,
         )
 
     def lines(self, machine):
@@ -171,7 +203,11 @@ class Machine:
         """Boots again and checks the package; tells what the program printed."""
         machine = self.begin("check")
         try:
-            return [line for line in self.lines(machine) if line.startswith((b"package", b"fault", b"rule", b"not a", b"mm_status"))]
+            return [
+                line
+                for line in self.lines(machine)
+                if line.startswith((b"package", b"fault", b"rule", b"not a", b"mm_status"))
+            ]
         finally:
             machine.kill()
             machine.wait()
@@ -180,7 +216,12 @@ class Machine:
 def rows_of(file):
     """The rows of each table of a file, as Python's sqlite3 has them."""
     connection = sqlite3.connect(file)
-    tables = [it for (it,) in connection.execute("SELECT name FROM sqlite_schema WHERE type = 'table' AND name NOT LIKE 'sqlite_%'")]
+    tables = [
+        it
+        for (it,) in connection.execute(
+            "SELECT name FROM sqlite_schema WHERE type = 'table' AND name NOT LIKE 'sqlite_%'"
+        )
+    ]
     rows = {table: sorted(connection.execute(query_of(table)).fetchall(), key=repr) for table in tables}
     connection.close()
     return rows
@@ -200,7 +241,8 @@ def applied(package, record):
 
 
 def stands_in_full(text, told, found):
-    """Compares the answers and the rows that were found with the model; tells whether one more command stood than was answered."""
+    """Compares the answers and the rows that were found with the model; tells whether one more command stood than was
+    answered."""
     package, todo = Package(), records(text)
     for (number, answer), (place, record) in zip(told, enumerate(todo, 1)):
         expect((number, answer), (place, applied(package, record)), "an answer")
@@ -239,7 +281,10 @@ def main():
         try:
             told, stood = cut(machines[system], random.Random(f"{seed} {number}"))
             passed, answers, more = passed + 1, answers + told, more + stood
-            print(f"cut {number} on {system}: {told} answers, {'one command more' if stood else 'no command more'} stood", flush=True)
+            print(
+                f"cut {number} on {system}: {told} answers, {'one command more' if stood else 'no command more'} stood",
+                flush=True,
+            )
         except (AssertionError, OSError, sqlite3.Error, subprocess.SubprocessError) as error:
             failed += 1
             print(f"cut {number} on {system} (seed {seed}): {error}", flush=True)

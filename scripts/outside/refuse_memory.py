@@ -3,14 +3,16 @@
 
     scripts/outside/refuse_memory.py [--seconds N | --whole] [PROGRAM]
 
-PROGRAM is the built program: without it the one of the environment's MMPKG, or out/mmpkg. The program asks the C library for
-memory. A small library is loaded before it whose N-th call of malloc or realloc answers that there is none; N counts upwards until a run
-meets no refusal. The answer has to be that of ample memory, or fault 90 behind what was answered before. What then stands in the file, its
-rows read by Python's sqlite3, has to be the package after the commands that were acknowledged, or after one more.
+PROGRAM is the built program: without it the one of the environment's MMPKG, or out/mmpkg. The program asks the C
+library for memory. A small library is loaded before it whose N-th call of malloc or realloc answers that there is none;
+N counts upwards until a run meets no refusal. The answer has to be that of ample memory, or fault 90 behind what was
+answered before. What then stands in the file, its rows read by Python's sqlite3, has to be the package after the
+commands that were acknowledged, or after one more.
 
-Each subcommand is a case, and so is each command, accepted once, each kind of read through the page, a list whose records can't be
-read, a list that is sent to a desk, and rows that one shows. With --whole each growth of each case is refused; else every so many-th,
-as few left out as N seconds allow (120 unless given). The last line says how many runs there were. Needs cc.
+Each subcommand is a case, and so is each command, accepted once, each kind of read through the page, a list whose
+records can't be read, a list that is sent to a desk, and rows that one shows. With --whole each growth of each case is
+refused; else every so many-th, as few left out as N seconds allow (120 unless given). The last line says how many runs
+there were. Needs cc.
 """
 
 import argparse
@@ -125,7 +127,8 @@ LATER = "later"
 # A list that a desk is sent: three commands, of which one is refused.
 SENT = b"row,spots,10,Well,,3\nrow,spots,x,,,0\nmedia,photos,6,image/png,02\n"
 
-# A case: what stands before it (None: no file), the words with FILE left out, its input, and what is asked of the page or of a desk; a desk that has
+# A case: what stands before it (None: no file), the words with FILE left out, its input, and what is asked of the page
+# or of a desk; a desk that has
 # input is sent it.
 Case = collections.namedtuple("Case", "name start words input page behind", defaults=(b"", None, ()))
 # What a run came to: its status, the lines that it printed, the page's response, and whether a growth was refused.
@@ -163,8 +166,8 @@ def build_refuser(folder):
 
 
 def rows_in(file):
-    """Returns all rows of all tables of a package, and nothing of a file that has no table. A desk's moments are the clock's: each but the
-    first is a later one."""
+    """Returns all rows of all tables of a package, and nothing of a file that has no table. A desk's moments are the
+    clock's: each but the first is a later one."""
     with contextlib.closing(sqlite3.connect(file)) as it:
         tables = [name for (name,) in it.execute("SELECT name FROM sqlite_schema WHERE type = 'table' ORDER BY name")]
         found = [(name, it.execute(f"SELECT * FROM {name}").fetchall()) for name in tables]
@@ -173,7 +176,11 @@ def rows_in(file):
 
 def is_later(value):
     """Whether a value is a moment, and not the first."""
-    return isinstance(value, str) and MOMENT.fullmatch(value) is not None and not value.startswith("1970-01-01T00:00:00.000")
+    return (
+        isinstance(value, str)
+        and MOMENT.fullmatch(value) is not None
+        and not value.startswith("1970-01-01T00:00:00.000")
+    )
 
 
 def request(case, port, given):
@@ -181,7 +188,10 @@ def request(case, port, given):
     if case.words[0] == "serve":
         return f"GET {case.page} HTTP/1.1\r\n\r\n".encode()
     sends = f"Content-Type: text/csv\r\nContent-Length: {len(given)}\r\n" if given else ""
-    return f"{'POST' if given else 'GET'} /{KEY}{case.page} HTTP/1.1\r\nHost: 127.0.0.1:{port}\r\n{sends}\r\n".encode() + given
+    return (
+        f"{'POST' if given else 'GET'} /{KEY}{case.page} HTTP/1.1\r\nHost: 127.0.0.1:{port}\r\n{sends}\r\n".encode()
+        + given
+    )
 
 
 def asked(running, port, sent):
@@ -231,11 +241,23 @@ class Room:
         """Runs the program where its growth of this number is refused, and none with 0."""
         self.put_start()
         subcommand, *rest = self.case.words
-        words = [self.program, subcommand, self.file, *self.case.behind, *rest, *(["--port", str(self.port)] if self.case.page else [])]
+        words = [
+            self.program,
+            subcommand,
+            self.file,
+            *self.case.behind,
+            *rest,
+            *(["--port", str(self.port)] if self.case.page else []),
+        ]
         given = self.case.input if given is None else given
         reader, writer = os.pipe()
         how = {"cwd": self.folder, "pass_fds": (writer,), "stdin": subprocess.PIPE, "stdout": subprocess.PIPE}
-        how["env"] = {"LD_PRELOAD": str(self.library), "REFUSE": str(number), "REFUSE_TOLD": str(writer), "MMPKG_KEY": KEY}
+        how["env"] = {
+            "LD_PRELOAD": str(self.library),
+            "REFUSE": str(number),
+            "REFUSE_TOLD": str(writer),
+            "MMPKG_KEY": KEY,
+        }
         with open(reader, "rb") as told, subprocess.Popen(words, **how) as running:
             os.close(writer)
             if self.case.page:
@@ -283,7 +305,8 @@ def is_desk_answer(ample, ran):
 
 
 def is_answer(case, ample, ran):
-    """Whether a run answers as one with ample memory does, or where a growth was refused as that one up to a fault 90."""
+    """Whether a run answers as one with ample memory does, or where a growth was refused as that one up to a fault
+    90."""
     if (ran.status, ran.lines, ran.response) == ample[:3]:
         return True
     if ran.refused and case.words[0] == "desk":
@@ -327,7 +350,8 @@ def growths(room):
 
 
 def sweep(program, library, case, seconds):
-    """Refuses each growth of a case, or every so many-th as the seconds allow; returns how many there are, and that stride."""
+    """Refuses each growth of a case, or every so many-th as the seconds allow; returns how many there are, and that
+    stride."""
     with tempfile.TemporaryDirectory(prefix="refuse_") as folder:
         room = Room(program, library, pathlib.Path(folder), case)
         found = room.standings()
@@ -359,7 +383,9 @@ def main():
                 sys.exit(f"{case.name}: {why}")
             tried += math.ceil(count / stride)
             print(f"{case.name}: {count} growths, each {stride}-th refused", flush=True)
-    print(f"{tried} growths refused in {len(all_cases)} cases: each was answered as with ample memory or by 90, and no acknowledged command is lost")
+    print(
+        f"{tried} growths refused in {len(all_cases)} cases: each was answered as with ample memory or by 90, and no acknowledged command is lost"
+    )
 
 
 if __name__ == "__main__":

@@ -1,12 +1,13 @@
 #!/usr/bin/env python3
-"""Looks at the viewer that travels in a package as a surveyor does, in a browser without a window. Called by scripts/outside/viewer.sh.
+"""Looks at the viewer that travels in a package as a surveyor does, in a browser without a window. Called by
+scripts/outside/viewer.sh.
 
     MMPKG=out/mmpkg scripts/outside/viewer_check.py [--browser chromium | firefox-esr] [--keep FOLDER] [WORD ..]
 
-A package of four pyramids and photos gets its viewer by the tool's own commands, and 'mmpkg serve' serves it. Each place of the map has to
-show the colour that this script gave the tile there; the place is what the page tells of the pointer, and what the tile is follows from
-the package's layout alone. --keep keeps the screenshots in a folder; WORD picks the checks whose names have it. The last line is
-'N passed, M failed'; the exit status is 1 where one failed.
+A package of four pyramids and photos gets its viewer by the tool's own commands, and 'mmpkg serve' serves it. Each
+place of the map has to show the colour that this script gave the tile there; the place is what the page tells of the
+pointer, and what the tile is follows from the package's layout alone. --keep keeps the screenshots in a folder; WORD
+picks the checks whose names have it. The last line is 'N passed, M failed'; the exit status is 1 where one failed.
 """
 
 import argparse
@@ -138,7 +139,8 @@ def expect_colours(scene, page, pyramid, name):
         expect(whose, "pointer", "whose position is told")
         matrix = next(it for it in pyramid.zooms if it.zoom == zoom)
         colour, edges = pyramid.colour_at(matrix, easting, northing)
-        # Where colours meet a browser mixes them: within a few pixels of the screen, and within one of the tile that is enlarged.
+        # Where colours meet a browser mixes them: within a few pixels of the screen, and within one of the tile that is
+        # enlarged.
         if any(
             edge < max(3 * side, 1.5 * pixel / UNITS_PER_METRE)
             for edge, pixel in zip(edges, (matrix.pixel_x, matrix.pixel_y))
@@ -153,7 +155,8 @@ def expect_colours(scene, page, pyramid, name):
 
 
 def expect_quiet(scene, pages):
-    """The pages asked for nothing but their own address, no tile outside its matrix, and their consoles tell of missing tiles alone."""
+    """The pages asked for nothing but their own address, no tile outside its matrix, and their consoles tell of missing
+    tiles alone."""
     asked = [url for page in pages for url in page.asked if not url.startswith(("blob:", "data:"))]
     strange = [url for url in asked if not url.startswith(scene.address + "/")]
     expect(strange, [], "requests elsewhere")
@@ -173,7 +176,8 @@ def expect_quiet(scene, pages):
 
 
 def check_colours_at_every_zoom(scene):
-    """Each zoom of each pyramid, and the two before and behind them that are drawn from its tiles, in their colours at their places."""
+    """Each zoom of each pyramid, and the two before and behind them that are drawn from its tiles, in their colours at
+    their places."""
     page = scene.open(width=1000, height=600)
     count = 0
     for pyramid in PYRAMIDS:
@@ -200,7 +204,8 @@ def check_missing_tiles(scene):
 
 
 def check_whole_map(scene):
-    """The whole extent is shown at the start, and by the button, with its middle in the middle, as large as a zoom allows."""
+    """The whole extent is shown at the start, and by the button, with its middle in the middle, as large as a zoom
+    allows."""
     page = scene.open()
     for pyramid in PYRAMIDS:
         choose(page, pyramid.table)
@@ -229,7 +234,8 @@ def middle(page, element):
 
 
 def check_place_stays(scene):
-    """Another pyramid of the same system is shown at the same place and at about the same scale, one of another system as a whole."""
+    """Another pyramid of the same system is shown at the same place and at about the same scale, one of another system
+    as a whole."""
     page = scene.open()
     zoom_to(page, 2, 500_300, 5_600_500)
     choose(page, "relief")
@@ -492,7 +498,8 @@ def check_no_answer(scene):
 
 
 def check_what_came_later(scene):
-    """A pyramid that came behind the viewer is named, and shown when the viewer is made anew and taken in by the same commands."""
+    """A pyramid that came behind the viewer is named, and shown when the viewer is made anew and taken in by the same
+    commands."""
     file = copy_of(scene, "later.mmpkg")
     later = dataclasses.replace(PYRAMIDS[2], table="later", identifier="Later map", missing=frozenset())
     mmpkg("run", file, given=later.records().encode())
@@ -549,7 +556,8 @@ def sparse_package(file):
 
 
 def check_where_tiles_are(scene):
-    """A map opens where its tiles are; where there is none that is said, and a button and a typed place go on from there."""
+    """A map opens where its tiles are; where there is none that is said, and a button and a typed place go on from
+    there."""
     file = scene.folder / "sparse.mmpkg"
     sparse_package(file)
     take_in(file, scene.folder / "sparse")
@@ -625,7 +633,8 @@ def package_files(folder):
 
 
 def check_tool_makes_a_kit(scene):
-    """OUT has the layout and four items, whose bytes are the page, Leaflet with its licence, and what the page has to know."""
+    """OUT has the layout and four items, whose bytes are the page, Leaflet with its licence, and what the page has to
+    know."""
     out = scene.folder / "out"
     expect(
         sorted(it.name for it in out.iterdir()),
@@ -657,9 +666,9 @@ def check_tool_makes_a_kit(scene):
     )
     assert re.fullmatch("[0-9a-f]{16}", known["package"]), known["package"]
     expect(
-        max(len(it.read_text().splitlines()) for it in (TOP / "tools" / "page").iterdir()) <= 250,
-        True,
-        "each file of the page has at most 250 lines",
+        [it.name for it in (TOP / "tools" / "page").iterdir() if len(it.read_text().splitlines()) > 250],
+        ["german.mjs"],
+        "files of the page of more than 250 lines: the table of another language alone",
     )
     expect({it.name for it in scene.folder.iterdir() if it.name.startswith(".viewer")}, set(), "what is left behind")
 
@@ -784,7 +793,8 @@ def check_tool_refuses(scene):
 
 
 def check_tool_without_leaflet(scene):
-    """Where Leaflet, its licence or the program is missing, that is named with what brings it; a reader who is gone gets no traceback."""
+    """Where Leaflet, its licence or the program is missing, that is named with what brings it; a reader who is gone
+    gets no traceback."""
     for name in ("LEAFLET", "LICENCE"):
         code = f"import sys, pathlib, make_viewer; make_viewer.{name} = pathlib.Path('/nowhere'); make_viewer.run_tool(make_viewer.main)"
         _, told = run(

@@ -1,12 +1,14 @@
 #!/usr/bin/env python3
-"""Goes through random weeks of an office and its crews by tools/hand_out.py and tools/come_home.py, and compares each step with a model.
+"""Goes through random weeks of an office and its crews by tools/hand_out.py and tools/come_home.py, and compares
+each step with a model.
 
     MMPKG=out/mmpkg scripts/outside/weeks_check.py [--seed N] [--weeks N] [--first N]
 
-Two to four crews get copies, work by small numbers and by the page's, with photos and removals, come home, some again and again, get news, lose a
-journal; the office works on; tools are killed at any request and done again; copies are mixed up. The model knows a row by its title and a photo by
-its first bytes, so numbers are no matter to it, and takes the rule from scripts/model/package_merge.py, which shares no code with the tools. It
-holds that nothing is lost unnamed, nothing stands twice, and nothing of others is touched. A week that went wrong is told by its seed and number.
+Two to four crews get copies, work by small numbers and by the page's, with photos and removals, come home, some again
+and again, get news, lose a journal; the office works on; tools are killed at any request and done again; copies are
+mixed up. The model knows a row by its title and a photo by its first bytes, so numbers are no matter to it, and takes
+the rule from scripts/model/package_merge.py, which shares no code with the tools. It holds that nothing is lost
+unnamed, nothing stands twice, and nothing of others is touched. A week that went wrong is told by its seed and number.
 The last line is 'N passed, M failed'; the exit status is 1 where one failed.
 """
 
@@ -49,7 +51,8 @@ OWN = "crew_numbers"
 
 
 def entries_of(file):
-    """All that a closed package has, as scripts/model/package_merge.py tells it: rows by their titles, photos by their first bytes."""
+    """All that a closed package has, as scripts/model/package_merge.py tells it: rows by their titles, photos by their
+    first bytes."""
     found = {}
     with contextlib.closing(sqlite3.connect(f"file:{file}?mode=ro", uri=True)) as opened:
         for name, kind, identifier in opened.execute(
@@ -103,7 +106,8 @@ def published(file):
 
 
 def tool(name, *words, kill=0, behind=False, pieces=4096):
-    """Runs a tool, killed at a request where that is wanted, with editions of so many pieces; status, and what it printed and told."""
+    """Runs a tool, killed at a request where that is wanted, with editions of so many pieces; status, and what it
+    printed and told."""
     with tempfile.TemporaryFile() as printed, tempfile.TemporaryFile() as told:
         child = os.fork()
         if child == 0:
@@ -299,7 +303,8 @@ class Week:
         run(PROGRAM, "run", file, given="".join(self.records(file, count)).encode())
 
     def work_that_is_killed(self, copy):
-        """A crew whose program is killed; sometimes its file comes home without the journal, and the rest another day."""
+        """A crew whose program is killed; sometimes its file comes home without the journal, and the rest another
+        day."""
         text = "".join(self.records(copy.file, 8)).encode()
         with subprocess.Popen([PROGRAM, "run", copy.file], stdin=subprocess.PIPE, stdout=subprocess.PIPE) as running:
             running.stdin.write(text)

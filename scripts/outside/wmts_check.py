@@ -175,7 +175,8 @@ def check_what_is_named(scene):
 
 
 def check_the_order_of_axes(_):
-    """Heights are no axis of the plane, and around a pole the names of the axes tell their order (EPSG 25832, 31468, 5972, 3031, 32661)."""
+    """Heights are no axis of the plane, and around a pole the names of the axes tell their order (EPSG 25832, 31468,
+    5972, 3031, 32661)."""
     utm = 'PROJCS["n",AXIS["Easting",EAST],AXIS["Northing",NORTH]]'
     for definition, northing_first in (
         (utm, False),

@@ -1,10 +1,12 @@
 // Random days of the outbox: forms of a crew, others that write, answers that are cut, and strangers at the port. What
-// was told as standing stands, what was saved is somewhere in sight, and nothing of anybody is overwritten unsaid.
+// was told as standing stands, what was saved is somewhere in sight, and nothing of anybody is overwritten unsaid. On
+// every second day the package keeps what rows were: then no version goes that isn't kept before.
 
 import assert from "node:assert/strict";
 import { test } from "node:test";
 
-import { partsOf } from "../../../tools/page/changes.mjs";
+import { isSameRow, partsOf } from "../../../tools/page/changes.mjs";
+import { rowBefore } from "../../../tools/page/past.mjs";
 import { actsOfForm, photosIn, removalOf } from "../../../tools/page/records.mjs";
 import { isBehind, isOpen, nextOf, rowIn, step, wayOf, withMine, withTheirs } from "../../../tools/page/steps.mjs";
 import { Desk } from "./desk.mjs";
@@ -27,6 +29,8 @@ function chanceOf(seed) {
 class Day {
   constructor(seed) {
     this.chance = chanceOf(seed);
+    this.mapping = seed % 2 ? null : "h";
+    this.removed = new Map();  // rows as they were when the crew was told that they are removed, by number
     this.desk = new Desk();
     this.acts = [];
     this.numbers = 100;
@@ -125,7 +129,7 @@ class Day {
   sends() {
     const act = nextOf(this.acts, KEY);
     if (!act) return false;
-    let way = wayOf(act, 1);
+    let way = wayOf(act, 1, this.mapping);
     this.isOther = this.chance(16) === 0;  // the address has another key, or none
     for (let asks = way.asks; asks; asks = way.asks) {
       if (this.chance(12) === 0) return true;  // the browser ends
@@ -146,7 +150,8 @@ class Day {
   answers(way) {
     const chance = this.chance(16), id = rowIn(way.act);
     if (chance === 0) return { is: "none", why: "no answer", isSilent: true };
-    if (way.asks === "row") return { is: "row", row: this.isOther ? undefined : this.desk.rows.get(id) ?? null };
+    const row = this.isOther ? undefined : this.desk.rows.get(id) ?? null;
+    if (way.asks === "row") return { is: "row", row, fresh: this.fresh() + 10000 };
     if (way.asks === "related") return { is: "related", related: this.isOther ? null : this.desk.relatedOf(id) };
     return { is: "answer", answer: this.runs(way, chance) };
   }
@@ -157,6 +162,7 @@ class Day {
     if (chance === 1) return text("<p>hello</p>\n".repeat(records.length));
     if (chance === 2) return { status: 302, type: null, leads: true, text: "" };
     this.expectSaid(way);
+    this.expectKept(way);
     const whole = this.desk.answer(records, chance === 3 ? this.chance(records.length + 1) : records.length);
     return text(chance === 4 ? whole.slice(0, this.chance(whole.length + 1)) : whole);
   }
@@ -173,11 +179,33 @@ class Day {
     }
   }
 
+  /** What a row is before another takes its place is kept by an earlier record, and once for each list. */
+  expectKept({ act, sent: { records, row } }) {
+    const there = this.desk.rows.get(rowIn(act)), past = records.filter(([word, table]) => word === "row"
+      && table === "history");
+    if (!this.mapping) return void assert.equal(past.length, 0, "a history that nobody has laid out");
+    if (!row || !there || isSameRow(row, there)) return;
+    const [[, , id, title, note, amount]] = past, told = rowBefore({ id, title, note, amount }, act.table, row.id);
+    assert.deepEqual([past.length, told], [1, there], "what a row was before another takes its place");
+    assert.ok(records[1].join() === ["map", "h", row.id, id].join() && records[2][1] === "spots", "the order");
+    const kept = this.desk.past.get(id);
+    assert.ok(!kept || kept.title === title && kept.note === note, "what is kept is never written over");
+  }
+
+  /** Of each removal that the crew was told of the package tells what the row was, where it keeps that. */
+  expectRemoved() {
+    for (const { id, title } of this.mapping ? this.removed.values() : []) {
+      const told = [...this.desk.past.values()].filter(it => it.title === title && it.note.endsWith(`of=spots/${id}`));
+      assert.ok(told.length > 0, `what row ${id} was when it was removed`);
+    }
+  }
+
   /** What the crew is told to stand stands in the package. */
   expectStands(act) {
     this.stood.add(act.saved);
     if (act.row) assert.deepEqual(this.desk.rows.get(act.row.id), act.row, "the row");
     if (act.dropped) assert.ok(!this.desk.rows.has(act.dropped), "the row that was removed");
+    if (act.dropped && act.then?.some(([word]) => word === "row")) this.removed.set(act.dropped, act.saw);
     for (const it of act.dropped ? [...this.photos] : []) if (it.startsWith(`${act.dropped} `)) this.photos.delete(it);
     for (const id of photosIn(act)) {
       assert.ok(this.desk.maps.has(`${act.of} ${id}`) && this.desk.photos.has(id), `photo ${id}`);
@@ -236,6 +264,7 @@ test(`${DAYS} random days`, () => {
       assert.ok(day.acts.every(isHeld), "what waits, waits for somebody");
       day.expectSight();
       day.expectPhotos();
+      day.expectRemoved();
     } catch (error) {
       error.message = `seed ${seed}: ${error.message}`;
       throw error;

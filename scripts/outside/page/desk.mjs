@@ -5,32 +5,38 @@ export class Desk {
     this.rows = new Map();      // by number
     this.photos = new Set();
     this.maps = new Set();      // "row photo"
+    this.past = new Map();      // rows of the table 'history' by number
+    this.pasts = new Set();     // "row past", of the mapping "h"
     this.held = new Set();      // rows that a row of another table is related to, which refuses their removal
   }
 
   /** What is related to a row; null where that isn't there. */
   relatedOf(id) {
     if (!this.rows.has(id)) return null;
-    const mine = [...this.maps].map(it => it.split(" ").map(Number)).filter(([row]) => row === id);
-    return mine.map(([, photo]) => ({ id: photo, table: "photos", mapping: "m", name: "media" }));
+    const of = pairs => [...pairs].map(it => it.split(" ").map(Number)).filter(([row]) => row === id);
+    const photos = of(this.maps).map(([, it]) => ({ id: it, table: "photos", mapping: "m", name: "media" }));
+    const past = { table: "history", mapping: "h", name: "simple_attributes" };
+    const pasts = of(this.pasts).map(([, it]) => ({ id: it, ...past }));
+    return [...pasts, ...photos];
   }
 
   /** The number that refuses a record; null where it is done. */
-  run([word, , one, ...more]) {
-    const pair = `${one} ${more[0]}`;
+  run([word, table, one, ...more]) {
+    const pair = `${one} ${more[0]}`, [maps, ends] = table === "h" ? [this.pasts, this.past] : [this.maps, this.photos];
     switch (word) {
       case "row":
-        this.rows.set(one, { id: one, title: more[0], note: more[1], amount: more[2] });
+        (table === "history" ? this.past : this.rows).set(one,
+          { id: one, title: more[0], note: more[1], amount: more[2] });
         return null;
       case "media":
         this.photos.add(one);
         return null;
       case "map":
         if (!this.rows.has(one)) return 40;
-        if (!this.photos.has(more[0])) return 41;
-        return this.maps.has(pair) ? 45 : (this.maps.add(pair), null);
+        if (!ends.has(more[0])) return table === "h" ? 40 : 41;
+        return maps.has(pair) ? 45 : (maps.add(pair), null);
       case "map-drop":
-        return this.maps.delete(pair) ? null : 46;
+        return maps.delete(pair) ? null : 46;
       case "row-drop":
         if (this.isBase(one) || this.held.has(one)) return 42;
         return this.rows.delete(one) ? null : 40;
@@ -42,7 +48,7 @@ export class Desk {
     }
   }
 
-  isBase(row) { return [...this.maps].some(it => it.startsWith(`${row} `)); }
+  isBase(row) { return [...this.maps, ...this.pasts].some(it => it.startsWith(`${row} `)); }
 
   isRelated(photo) { return [...this.maps].some(it => it.endsWith(` ${photo}`)); }
 

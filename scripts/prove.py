@@ -185,9 +185,14 @@ class Build:
             if self.is_stopped:
                 return "", 1
             self.started[name] = subprocess.Popen(
-                ["setpriv", "--pdeathsig", "TERM", "rt", "lib", "--jobs", str(jobs)], cwd=folder,
-                stdin=subprocess.DEVNULL, stdout=subprocess.PIPE, stderr=subprocess.STDOUT,
-                text=True, errors="replace", pass_fds=(self.lock,),
+                ["setpriv", "--pdeathsig", "TERM", "rt", "lib", "--jobs", str(jobs)],
+                cwd=folder,
+                stdin=subprocess.DEVNULL,
+                stdout=subprocess.PIPE,
+                stderr=subprocess.STDOUT,
+                text=True,
+                errors="replace",
+                pass_fds=(self.lock,),
             )
         said, _ = self.started[name].communicate()
         return said, self.started[name].returncode

@@ -1,12 +1,9 @@
 -- One more request of a desk, and its line.
-use Rattle.std.proofs.Common.{◌≡◌, ◌∙◌, ◌+◌, ◌<◌, ◌⊎◌, ℕ, List, [], ◌∷◌, ◌++◌, length, map, Option, Ok, Err, Result}
+use Rattle.std.proofs.Common.{◌≡◌, ◌∙◌, ◌+◌, ◌<◌, ◌⊎◌, ℕ, List, [], ◌∷◌, ◌++◌, length, Option, Ok, Err, Result}
 use Rattle.std.proofs.Common.{refl, sym, ap, subst, inl, inr, Bool, true, false, arith, length-append, append-nil, append_assoc}
-use Rattle.std.specs.Prelude.{◌≤◌}
-use Rattle.std.specs.List.{concat}
 use Rattle.std.specs.Io.KnownBytes.{Appends}
 use Rattle.std.proofs.KnownBytes.{Appends-nil, Appends-trans}
 use Rattle.std.proofs.lemmas.Bool.{false≢true}
-use Rattle.std.proofs.lemmas.List.Folds.{concat-append}
 use Rattle.mm_definitions.specs.Streams.{Written, written_as}
 use Rattle.mm_definitions.specs.declared.answers.PageFault.{PageFault}
 use Rattle.mm_definitions.specs.declared.answers.RunFault.{RunFault}
@@ -17,7 +14,7 @@ use Rattle.mm_desk.specs.Sittings.{Stays}
 use Rattle.mm_desk.specs.Told.{Told}
 use Rattle.mm_desk.specs.declared.desk.Done.{Done}
 use Rattle.mm_desk.specs.declared.desk.Done.TheVariants as dones
-use Rattle.mm_program.specs.Attended.{AreTold, EndNone, EndsNot, GoesOn, IsLast, TellsTurn, text_of, texts_of}
+use Rattle.mm_program.specs.Attended.{AreTold, EndNone, EndsNot, GoesOn, TellsTurn, text_of, texts_of}
 use Rattle.mm_program.specs.declared.sittings.Turn.{Turn}
 use Rattle.mm_program.specs.declared.sittings.Turn.TheVariants as turns
 

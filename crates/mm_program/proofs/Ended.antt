@@ -1,7 +1,6 @@
 -- What is told of work on a file that was done, or was not.
-use Rattle.std.proofs.Common.{◌≡◌, ◌⊎◌, ℕ, Bool, true, Result, Ok, Err, IfOk, IfErr, inl, inr, refl, sym, ap, subst}
-use Rattle.std.specs.Prelude.{◌==◌, ◌≤◌, ◌≢◌, not}
-use Rattle.std.proofs.lemmas.Result.{IfErr-weaker, IfOk-weaker}
+use Rattle.std.proofs.Common.{◌≡◌, ◌⊎◌, ℕ, Bool, true, Option, Result, Ok, Err, IfOk, IfErr, inl, inr, refl, sym, ap, subst}
+use Rattle.std.specs.Prelude.{◌==◌, ◌≢◌, not}
 use Rattle.sqlite_disk.specs.declared.Disk.{Ghosts}
 use Rattle.sqlite.specs.Tree.{Trees}
 use Rattle.sqlite.specs.Recovery.{Image}
@@ -9,14 +8,15 @@ use Rattle.mm_definitions.specs.Keys.{Text}
 use Rattle.mm_definitions.specs.Streams.{Written}
 use Rattle.mm_files.specs.declared.left.Left.{Left}
 use Rattle.mm_files.specs.declared.left.Left.TheVariants as left
-use Rattle.mm_work.specs.Told.{stop_status}
+use Rattle.mm_work.specs.Told.{IsTold, stop_status, stop_text}
 use Rattle.mm_work.specs.declared.stop.Stop.{Stop}
 use Rattle.mm_work.specs.declared.stop.Stop.TheVariants as stops
+use Rattle.mm_program.specs.Desks.{IsKey, IsSeated, TellsSeat}
 use Rattle.mm_program.specs.Files.{IsUndone, WorkEnds, WorksOnFile}
-use Rattle.mm_program.specs.Rows.{ShowingEnds}
 use Rattle.mm_program.specs.Served.{EndsWell, PrintsNothing, ServiceEnds}
 use Rattle.mm_program.specs.Stops.{StopsAny, StopsCheck, StopsNew, StopsOld}
-use Rattle.mm_program.specs.Worked.{ListingEnds, RunEnds, closes_done, closes_run}
+use Rattle.mm_program.specs.Told.{CameTo, IsOutcome}
+use Rattle.mm_program.specs.Worked.{StatusEnds, closes_done, closes_run}
 
 -- what holds of each thing that the work comes to, and of each cause for which it is not done, holds of what is told
 ended : {D S T : Type 0} {g : Ghosts D} (IsCause : Stop → Type 0)
@@ -58,10 +58,6 @@ untold comes_to closes old new why (inr it) = inr (any_fault why it.0)
 not_three : (n : ℕ) → not (n == 3) ≡ true → n ≢ 3
 not_three n is same = let e : not (3 == 3) ≡ true = subst (λ k. not (k == 3) ≡ true) same is in cc
 
-no_three : {A : Type 0} (n : ℕ) → (n ≡ 3) ⊎ A → not (n == 3) ≡ true → A
-no_three n (inl three) is = absurd (not_three n is three)
-no_three n (inr it) is = it
-
 same_failed : (old new : Written) → new ≡ old → new.failed ≡ old.failed
 same_failed old new same = ap (λ (w : Written). w.failed) same
 
@@ -70,30 +66,11 @@ nothing old new same = (ap (λ (w : Written). w.contents) same, same_failed old 
 
 -- ---- what it came to where it was done, by what it comes to
 
--- where the files were to be closed behind it the writer works on
-run_works : (old new : Written) (done : Result ℕ Stop) → RunEnds old new done → closes_run done ≡ true
-    → new.failed ≡ old.failed
-run_works old new (Ok status) it closed = no_three status it.0.1 closed
-run_works old new (Err why) it closed = it.1.0
-
-run_unfailed : (old new : Written) (why : Stop) → IsUndone RunEnds closes_run old new why → new.failed ≡ old.failed
-run_unfailed old new why (inl same) = same_failed old new same
-run_unfailed old new why (inr (stops, done, came, closed)) = run_works old new done came closed
-
 module _ (Serves : Written → Written → ℕ → Type 0) (old new : Written) where
-  service_works : (done : Result ℕ Stop) → ServiceEnds Serves old new done → closes_run done ≡ true
-      → new.failed ≡ old.failed
-  service_works (Ok status) it closed = no_three status it.0.1 closed
-  service_works (Err why) it closed = same_failed old new it.1
-
   ends_well : (done : Result ℕ Stop) → ServiceEnds Serves old new done → closes_run done ≡ true
       → EndsWell Serves old new
   ends_well (Ok status) it closed = (status, not_three status closed, it.0.2)
   ends_well (Err why) it closed = cc
-
-  unfailed : (why : Stop) → IsUndone (ServiceEnds Serves) closes_run old new why → new.failed ≡ old.failed
-  unfailed why (inl same) = same_failed old new same
-  unfailed why (inr (stops, done, came, closed)) = service_works done came closed
 
   ended_well : (why : Stop) → IsUndone (ServiceEnds Serves) closes_run old new why
       → PrintsNothing old new ⊎ EndsWell Serves old new
@@ -130,53 +107,66 @@ module _ {D S : Type 0} {g : Ghosts D} {image : Image} {path : Text} {old new : 
     checked it = told_of (λ held holds done. IfErr done StopsCheck) (λ done. IfErr done StopsCheck) (λ done is. is)
         (λ why is undone. old_check why is) it
 
-    pub listed : WorksOnFile g image path StopsOld ListingEnds tells leaves closes_done old new done rest
-        → ListingEnds old new done
-    listed it = told_of ListingEnds (ListingEnds old new) (λ done is. is)
-        (λ why is undone. (tt, untold ListingEnds closes_done old new why undone)) it
+  -- work that has a status
+  module _ {T : Type 0} {comes_to : Written → Written → Result T Stop → Type 0}
+      {tells : Trees → Written → Written → Result T Stop → Type 0}
+      {leaves : Trees → Trees → Written → Written → Result T Stop → Type 0} {closes : Result T Stop → Bool}
+      {done : Result T Stop} where
+    pub has_status : (status : T → ℕ)
+        → ((old new : Written) (done : Result T Stop) → comes_to old new done → StatusEnds status old new done)
+        → WorksOnFile g image path StopsOld comes_to tells leaves closes old new done rest
+        → StatusEnds status old new done
+    has_status status ends it = told_of comes_to (StatusEnds status old new) (λ done is. ends old new done is)
+        (λ why is undone. (tt, untold comes_to closes old new why undone)) it
 
-  module _ {tells : Trees → Written → Written → Result ℕ Stop → Type 0}
-      {leaves : Trees → Trees → Written → Written → Result ℕ Stop → Type 0} {done : Result ℕ Stop} where
-    pub shown : WorksOnFile g image path StopsOld ShowingEnds tells leaves closes_run old new done rest
-        → ShowingEnds old new done
-    shown it = told_of ShowingEnds (ShowingEnds old new) (λ done is. is)
-        (λ why is undone. (tt, untold ShowingEnds closes_run old new why undone)) it
+-- ---- a page that is served, or a desk
 
-    pub ran : WorksOnFile g image path StopsOld RunEnds tells leaves closes_run old new done rest → RunEnds old new done
-    ran it = told_of RunEnds (RunEnds old new) (λ done is. is)
-        (λ why is undone. (tt, (run_unfailed old new why undone, untold RunEnds closes_run old new why undone))) it
+module _ (Serves : Written → Written → ℕ → Type 0) where
+  pub service_ends : (old new : Written) (done : Result ℕ Stop) → ServiceEnds Serves old new done
+      → StatusEnds (λ status. status) old new done
+  service_ends old new (Ok status) it = ((it.0.0, it.0.1), tt)
+  service_ends old new (Err why) it = (tt, inl it.1)
 
-    -- a page that is served, or a desk
-    module _ (Serves : Written → Written → ℕ → Type 0)
-        (it : WorksOnFile g image path StopsOld (ServiceEnds Serves) tells leaves closes_run old new done rest) where
-      of_service : (Holds : Result ℕ Stop → Type 0)
-          → ((done : Result ℕ Stop) → ServiceEnds Serves old new done → Holds done)
-          → ((why : Stop) → IsUndone (ServiceEnds Serves) closes_run old new why → Holds (Err why)) → Holds done
-      of_service Holds did off = told_of (ServiceEnds Serves) Holds did (λ why is undone. off why undone) it
+  -- it was there, with its status; or why it was not is told
+  abbrev pub TellsServing : Written → Written → ℕ → Type 0
+  TellsServing old new result =
+      Serves old new result
+      ⊎ ((why : Stop) × (between : Written) × (PrintsNothing old between ⊎ EndsWell Serves old between)
+      × IsTold between new (stop_text why) (stop_status why) result)
 
-      pub service_status : IfOk done (λ status. status ≤ 3)
-      service_status = of_service (λ done. IfOk done (λ status. status ≤ 3))
-          (λ done is. IfOk-weaker done _ _ (λ status served. served.0) is.0) (λ why undone. tt)
+  module _ (old new : Written) (result : ℕ) where
+    HasServed : Written → Result ℕ Stop → Type 0
+    HasServed between done =
+        IfOk done (Serves old between) × IfErr done (λ why. PrintsNothing old between ⊎ EndsWell Serves old between)
 
-      pub service_working : IfOk done (λ status. (status ≡ 3) ⊎ (new.failed ≡ old.failed))
-      service_working = of_service (λ done. IfOk done (λ status. (status ≡ 3) ⊎ (new.failed ≡ old.failed)))
-          (λ done is. IfOk-weaker done _ _ (λ status served. served.1) is.0) (λ why undone. tt)
+    has_served : (between : Written) (done : Result ℕ Stop) → ServiceEnds Serves old between done
+        → HasServed between done
+    unfolding HasServed
+    has_served between (Ok status) it = (it.0.2, tt)
+    has_served between (Err why) it = (tt, inl (nothing old between it.1))
 
-      pub service_done : IfOk done (Serves old new)
-      service_done = of_service (λ done. IfOk done (Serves old new))
-          (λ done is. IfOk-weaker done _ _ (λ status served. served.2) is.0) (λ why undone. tt)
+    serves : (between : Written) (done : Result ℕ Stop) → HasServed between done
+        → IsOutcome (λ (status : ℕ). status) between new done result → TellsServing old new result
+    unfolding HasServed
+    serves between (Ok status) it (same, is) =
+        inl (subst (λ (r : ℕ). Serves old new r) (sym is) (subst (λ (w : Written). Serves old w status) same it.0))
+    serves between (Err why) it told = inr (why, between, it.1, told)
 
-      pub service_unused : IfErr done (λ why. new.failed ≡ old.failed)
-      service_unused = of_service (λ done. IfErr done (λ why. new.failed ≡ old.failed))
-          (λ done is. IfErr-weaker done _ _ (λ why same. same_failed old new same) is.1)
-          (λ why undone. unfailed Serves old new why undone)
+    pub service_tells : {D S : Type 0} {g : Ghosts D} (left : Left D S g)
+        → CameTo g old new result left (ServiceEnds Serves) closes_run (λ (status : ℕ). status)
+        → TellsServing old new result
+    unfolding HasServed
+    service_tells left (between, outcome, ends, is) =
+        serves between outcome
+        (ended StopsOld (ServiceEnds Serves) closes_run old between (HasServed between)
+        (λ done came. has_served between done came)
+        (λ why cause undone. (tt, ended_well Serves old between why undone)) outcome left ends) is
 
-      pub service_stopped : IfErr done (λ why. PrintsNothing old new ⊎ EndsWell Serves old new)
-      service_stopped = of_service (λ done. IfErr done (λ why. PrintsNothing old new ⊎ EndsWell Serves old new))
-          (λ done is. IfErr-weaker done _ _ (λ why same. inl (nothing old new same)) is.1)
-          (λ why undone. ended_well Serves old new why undone)
-
-      pub service_told : IfErr done (λ why. (new ≡ old) ⊎ (stop_status why ≡ 3))
-      service_told = of_service (λ done. IfErr done (λ why. (new ≡ old) ⊎ (stop_status why ≡ 3)))
-          (λ done is. IfErr-weaker done _ _ (λ why same. inl same) is.1)
-          (λ why undone. untold (ServiceEnds Serves) closes_run old new why undone)
+-- a desk by a key
+pub seats : (port count : ℕ) (key : Text) (table : Option Text) (old new : Written) (result : ℕ) → IsKey key
+    → TellsServing (IsSeated port count key table) old new result → TellsSeat port count table old new result
+seats port count key table old new result is (inl seated) = inr (inl (key, is, seated))
+seats port count key table old new result is (inr (why, between, inl none, told)) =
+    inr (inr (why, between, inl none, told))
+seats port count key table old new result is (inr (why, between, inr was, told)) =
+    inr (inr (why, between, inr (key, is, was), told))

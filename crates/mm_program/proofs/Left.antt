@@ -1,5 +1,5 @@
 -- What work leaves of a database, and tells of it, by what becomes of the connection that was just opened.
-use Rattle.std.proofs.Common.{◌≡◌, ◌⊎◌, ℕ, ℤ, ◌+◌, List, Option, Result, Ok, Err, IfErr, inl, inr, subst, sym}
+use Rattle.std.proofs.Common.{◌≡◌, ◌⊎◌, ℕ, ◌+◌, List, Option, Result, Ok, Err, IfErr, inl, inr, subst, sym}
 use Rattle.sqlite.specs.Tree.{Trees}
 use Rattle.sqlite.specs.State.{State, HasCleanDisk}
 use Rattle.mm_store.proofs.Seen.{seen_of}
@@ -27,16 +27,14 @@ use Rattle.mm_core.specs.Opening.{HasNoTable, IsBlank}
 use Rattle.mm_core.specs.Viewers.{LeavesPackage}
 use Rattle.mm_work.specs.Declined.{IsDeclined}
 use Rattle.mm_work.specs.Imports.{IsImport}
-use Rattle.mm_work.specs.Looked.{IsListing, IsUnlisted}
-use Rattle.mm_work.specs.Shown.{IsShowing, IsUnshown}
+use Rattle.mm_work.specs.Texts.{IsTextShown, IsTextUnshown}
 use Rattle.mm_work.specs.Migrated.{IsUnmigrated}
 use Rattle.mm_work.specs.Ran.{IsListRun}
 use Rattle.mm_work.specs.declared.stop.Stop.{Stop}
 use Rattle.mm_work.specs.declared.stop.Stop.TheVariants as stops
 use Rattle.mm_files.specs.Worked.{IsJustOpened}
 use Rattle.mm_program.specs.Left.{IsImportOf, LeavesImport, LeavesMade, LeavesMigrated, LeavesSame, RanTo, StaysFor}
-use Rattle.mm_program.specs.Left.{StaysIn, TellsDeclined, TellsListing, TellsMigrated, TellsServed, WasFoundWell}
-use Rattle.mm_program.specs.Rows.{TellsShown}
+use Rattle.mm_program.specs.Left.{StaysIn, TellsDeclined, TellsMigrated, TellsServed, TellsText, WasFoundWell}
 use Rattle.mm_core.proofs.Opened.{nothing_less, opened_blank, opened_settles}
 
 -- ---- a run
@@ -131,50 +129,29 @@ module _ (old new : State) (fresh : HasCleanDisk old → IsJustOpened old) (clea
   pub found_adopted : IsAdopted old new → WasFoundWell old.committed.trees
   found_adopted it = found_well (λ is. nothing_less _ _ it.survives.clean is) (was_adopted old new new it (λ is. is))
 
-  -- ---- a listing
-  pub tells_listing : (held holds : Written) (done : Unit {0}) → IsListing old new held.contents holds.contents
-      → TellsListing old.committed.trees held holds (Ok done)
-  tells_listing held holds done it =
-      let was : HasCleanDisk new → HasCleanDisk old = λ is. nothing_less _ _ it.survives.clean is in
-      (found_well was it.adopted, λ p stands. it.printed clean p (settles was p stands))
-
-  pub tells_unlisted : (held holds : Written) (why : Stop) → IsUnlisted old new held holds why
-      → TellsListing old.committed.trees held holds (Err why)
-  tells_unlisted held holds why (inl (declined, same)) p stands = inl (tells_declined why declined p stands, same)
-  tells_unlisted held holds why (inr (fault, cut, is)) p stands =
-      let settled = settles (λ c. nothing_less _ _ cut.survives.clean c) p stands in
-      inr (cut.meets clean p settled, cut.begun clean p settled, (fault, is))
-
-  pub leaves_unlisted : (held holds : Written) (why : Stop) → IsUnlisted old new held holds why → (after : Trees)
-      → new.may_leave after
-      → LeavesSame old.committed.trees after
-  leaves_unlisted held holds why (inl (declined, same)) after may = leaves_same declined.1.survives after may
-  leaves_unlisted held holds why (inr (fault, cut, is)) after may = leaves_same cut.survives after may
-
-  -- ---- rows
-  pub tells_shown : (table : Text) (id : Option ℤ) (held holds : Written) (status : ℕ)
-      → IsShowing table id old new held.contents holds.contents status
-      → TellsShown table id old.committed.trees held holds (Ok status)
-  tells_shown table id held holds status it =
-      let was : HasCleanDisk new → HasCleanDisk old = λ is. nothing_less _ _ it.survives.clean is in (
-        found_well was it.adopted,
-        λ p stands. (it.printed clean p (settles was p stands), it.told clean p (settles was p stands)),
+  -- ---- a text
+  pub tells_text : {T : Type 0} (text : Package → Text) (came : Package → T) (held holds : Written) (it : T)
+      → IsTextShown text came old new held.contents holds.contents it
+      → TellsText text came old.committed.trees held holds (Ok it)
+  tells_text text came held holds it is =
+      let was : HasCleanDisk new → HasCleanDisk old = λ c. nothing_less _ _ is.survives.clean c in (
+        found_well was is.adopted,
+        λ p stands. (is.printed clean p (settles was p stands), is.told clean p (settles was p stands)),
       )
 
-  pub tells_unshown : (table : Text) (id : Option ℤ) (held holds : Written) (why : Stop)
-      → IsUnshown table id old new held holds why
-      → TellsShown table id old.committed.trees held holds (Err why)
-  tells_unshown table id held holds why (inl (declined, same)) p stands =
+  pub tells_no_text : {T : Type 0} (text : Package → Text) (came : Package → T) (held holds : Written) (why : Stop)
+      → IsTextUnshown text old new held holds why → TellsText text came old.committed.trees held holds (Err why)
+  tells_no_text text came held holds why (inl (declined, same)) p stands =
       inl (tells_declined why declined p stands, same)
-  tells_unshown table id held holds why (inr (fault, cut, is)) p stands =
+  tells_no_text text came held holds why (inr (fault, cut, is)) p stands =
       let settled = settles (λ c. nothing_less _ _ cut.survives.clean c) p stands in
       inr (cut.meets clean p settled, cut.begun clean p settled, (fault, is))
 
-  pub leaves_unshown : (table : Text) (id : Option ℤ) (held holds : Written) (why : Stop)
-      → IsUnshown table id old new held holds why → (after : Trees) → new.may_leave after
+  pub leaves_no_text : (text : Package → Text) (held holds : Written) (why : Stop)
+      → IsTextUnshown text old new held holds why → (after : Trees) → new.may_leave after
       → LeavesSame old.committed.trees after
-  leaves_unshown table id held holds why (inl (declined, same)) after may = leaves_same declined.1.survives after may
-  leaves_unshown table id held holds why (inr (fault, cut, is)) after may = leaves_same cut.survives after may
+  leaves_no_text text held holds why (inl (declined, same)) after may = leaves_same declined.1.survives after may
+  leaves_no_text text held holds why (inr (fault, cut, is)) after may = leaves_same cut.survives after may
 
   -- ---- a making
   blank : HasCleanDisk old → HasNoTable old.committed.trees → IsBlank old

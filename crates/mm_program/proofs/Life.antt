@@ -1,7 +1,7 @@
 -- From one run of the program to the next.
 use Rattle.std.proofs.Common.{arith, ◌≡◌, ℕ, List, [], ◌∷◌, Option, Some, Result, Ok, Err, Bool, IfErr, inl, inr}
 use Rattle.std.proofs.Common.{refl, sym, subst}
-use Rattle.std.specs.Prelude.{⊤, IsTrue, true, false}
+use Rattle.std.specs.Prelude.{⊤, true, false}
 use Rattle.std.proofs.Math.Logic.{∥∥₁_elim, ∥∥₁_map}
 use Rattle.sqlite_disk.specs.declared.Disk.{Ghosts}
 use Rattle.sqlite.specs.Tree.{Trees}

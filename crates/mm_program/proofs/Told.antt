@@ -1,11 +1,6 @@
--- What a subcommand tells, by what the work on its file came to.
-use Rattle.std.proofs.Common.{◌≡◌, ◌∙◌, ◌⊎◌, ℕ, Option, Some, None, Result, Ok, Err, IfErr, IfSome, refl, sym, ap}
+-- The moment of a run or an import, as it is told.
+use Rattle.std.proofs.Common.{◌≡◌, ◌∙◌, ℕ, Option, Some, None, IfSome, refl, sym, ap}
 use Rattle.std.specs.Prelude.{unwrap_or}
-use Rattle.mm_definitions.specs.Streams.{Written}
-use Rattle.mm_work.specs.Told.{stop_status}
-use Rattle.mm_work.specs.declared.stop.Stop.{Stop}
-use Rattle.mm_program.specs.Rows.{ShowingEnds}
-use Rattle.mm_program.specs.Worked.{ListingEnds, RunEnds}
 use Rattle.mm_program.specs.declared.clock.Now.{Now}
 use Rattle.mm_program.specs.declared.clock.Now.TheVariants as now
 
@@ -25,18 +20,3 @@ at_given (Some m) it moment given is = ap moment_of (sym is ∙ given)
 pub any_given : (at : Option ℕ) → IfSome at (λ given. unwrap_or at 0 ≡ given)
 any_given None = tt
 any_given (Some m) = refl
-
-pub run_untold : (old new : Written) (done : Result ℕ Stop) → RunEnds old new done
-    → IfErr done (λ why. (new ≡ old) ⊎ (stop_status why ≡ 3))
-run_untold old new (Ok status) run = tt
-run_untold old new (Err why) run = run.1.1
-
-pub list_untold : (old new : Written) (done : Result (Unit {0}) Stop) → ListingEnds old new done
-    → IfErr done (λ why. (new ≡ old) ⊎ (stop_status why ≡ 3))
-list_untold old new (Ok done) listed = tt
-list_untold old new (Err why) listed = listed.1
-
-pub show_untold : (old new : Written) (done : Result ℕ Stop) → ShowingEnds old new done
-    → IfErr done (λ why. (new ≡ old) ⊎ (stop_status why ≡ 3))
-show_untold old new (Ok status) shown = tt
-show_untold old new (Err why) shown = shown.1

@@ -30,6 +30,7 @@ use Rattle.mm_core.specs.Runs.{RanAll, RanSome}
 use Rattle.mm_core.specs.Shown.{Shown}
 use Rattle.mm_work.specs.Declined.{stop_of}
 use Rattle.mm_work.specs.Ran.{IsStatusOf}
+use Rattle.mm_work.specs.Shown.{shown_status, shown_text}
 use Rattle.mm_work.specs.declared.stop.Stop.{Stop}
 use Rattle.mm_work.specs.declared.stop.Stop.TheVariants as stops
 
@@ -58,18 +59,27 @@ abbrev pub TellsChecked : Trees → Result (Unit {0}) Stop → Type 0
 TellsChecked found (Ok done) = WasFoundWell found
 TellsChecked found (Err why) = TellsDeclined found why
 
--- the package is declined, and nothing was printed; or it meets the rules, and a fault ended its listing behind a
--- beginning
-abbrev pub IsListingEnded : Package → Written → Written → Stop → Type 0
-IsListingEnded p old new why =
+-- the package is declined, and nothing was printed; or it meets the rules, and a fault ended the text behind a beginning
+abbrev pub IsTextEnded : Text → Package → Written → Written → Stop → Type 0
+IsTextEnded text p old new why =
     (IsDeclinedFor p why × (new ≡ old))
-    ⊎ (Meets current p × IsBegun old.contents new.contents (listing p) × ((fault : Fault) × (why ≡ stops.Fault fault)))
+    ⊎ (Meets current p × IsBegun old.contents new.contents text × ((fault : Fault) × (why ≡ stops.Fault fault)))
 
--- `list`: the listing that is printed is that of the package, which meets the rules
+-- the text that is printed is the one of the package, which meets the rules, and it comes to what goes with that
+abbrev pub TellsText : {T : Type 0} → (Package → Text) → (Package → T) → Trees → Written → Written → Result T Stop
+    → Type 0
+TellsText text came found old new (Ok it) = WasFoundWell found
+    × ((p : Package) → StandsForCurrent found p → Appends old.contents new.contents (text p) × (it ≡ came p))
+TellsText text came found old new (Err why) =
+    (p : Package) → StandsForCurrent found p → IsTextEnded (text p) p old new why
+
+-- `list`: that text is the listing
 abbrev pub TellsListing : Trees → Written → Written → Result (Unit {0}) Stop → Type 0
-TellsListing found old new (Ok done) =
-    WasFoundWell found × ((p : Package) → StandsForCurrent found p → Appends old.contents new.contents (listing p))
-TellsListing found old new (Err why) = (p : Package) → StandsForCurrent found p → IsListingEnded p old new why
+TellsListing = TellsText listing (λ p. tt)
+
+-- `show`: the records of the rows, or the line of why there are none, each with its status
+abbrev pub TellsShown : Text → Option ℤ → Trees → Written → Written → Result ℕ Stop → Type 0
+TellsShown table id = TellsText (λ p. shown_text p table id) (λ p. shown_status p table id)
 
 -- `serve`: the package meets the rules, or is declined; or the port could not be bound
 abbrev pub TellsServed : Trees → Result ℕ Stop → Type 0

@@ -5,8 +5,6 @@ pub mod Desks
 pub mod Explained
 pub mod Left
 pub mod Life
-pub mod Rows
-pub mod Printed
 pub mod Told
 pub mod Served
 pub mod Worked

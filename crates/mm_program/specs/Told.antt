@@ -1,16 +1,19 @@
 -- What a subcommand prints, and the exit status that goes with it.
-use Rattle.std.specs.Prelude.{◌≡◌, ◌⊎◌, ⊤, ℕ, ℤ, Bool, List, Option, None, Result, Ok, Err, IfErr, IfSome, codes}
+use Rattle.std.specs.Prelude.{◌≡◌, ◌⊎◌, ⊤, ℕ, ℤ, Bool, List, Option, None, Some, Result, Ok, Err, IfErr, IfSome, codes}
 use Rattle.sqlite_disk.specs.declared.Disk.{Ghosts}
 use Rattle.sqlite.specs.Tree.{Trees}
 use Rattle.sqlite.specs.Recovery.{Image}
+use Rattle.mm_definitions.specs.Faults as faults
 use Rattle.mm_definitions.specs.Bounds.{IsName}
 use Rattle.mm_definitions.specs.Keys.{Text}
 use Rattle.mm_definitions.specs.declared.answers.KitFault.{KitFault}
 use Rattle.mm_definitions.specs.declared.answers.Staged.{Staged}
+use Rattle.mm_work.specs.Imports.{kit_status, kit_text}
 use Rattle.mm_work.specs.Looked.{check_status, check_text}
 use Rattle.mm_work.specs.Migrated.{migrate_status, migrate_text}
 use Rattle.mm_work.specs.Told.{IsTold, init_status, init_text, stop_status, stop_text}
 use Rattle.mm_work.specs.declared.stop.Stop.{Stop}
+use Rattle.mm_work.specs.declared.stop.Stop.TheVariants as stops
 use Rattle.clap.specs.Words.{HasKind, fault_of, kind_of}
 use Rattle.clap.specs.declared.error.Error.{Error}
 use Rattle.mm_arguments.specs.CommandLine.{command_line}
@@ -21,15 +24,36 @@ use Rattle.mm_files.specs.declared.left.Left.{Left}
 use Rattle.mm_files.specs.Worked.{IsUnprinted}
 use Rattle.mm_program.specs.Desks.{LeavesDesk, TellsDesk, TellsSat, table_of}
 use Rattle.mm_program.specs.Explained.{TellsExplained}
-use Rattle.mm_program.specs.Files.{IsUntouched, OnFile, StopsNew, StopsOld, WasBare}
+use Rattle.mm_program.specs.Files.{IsUntouched, OnFile, StopsNew, StopsOld, WasBare, WorkEnds}
 use Rattle.mm_program.specs.Left.{LeavesImport, LeavesMade, LeavesMigrated, LeavesRun, LeavesSame}
 use Rattle.mm_program.specs.Left.{TellsChecked, TellsImport, TellsListing, TellsMigrated, TellsRun, TellsServed}
-use Rattle.mm_program.specs.Rows.{TellsShown}
+use Rattle.mm_program.specs.Left.{TellsShown}
 use Rattle.mm_program.specs.Served.{TellsServe}
 pub use Rattle.mm_program.specs.Stops.{StopsCheck}
-pub use Rattle.mm_program.specs.Printed.{TellsDecline, TellsStatus, import_status, import_text}
 use Rattle.mm_program.specs.Worked.{closes_done, closes_import, closes_run}
 use Rattle.mm_definitions.specs.Streams.{Written}
+
+-- ---- what goes with any of them
+
+-- what an import came to, or why none was begun
+abbrev pub import_text : Result (Result Staged KitFault) Stop → List ℕ
+import_text (Ok import) = kit_text import
+import_text (Err why) = stop_text why
+
+-- the exit status that goes with it
+abbrev pub import_status : Result (Result Staged KitFault) Stop → ℕ
+import_status (Ok import) = kit_status import
+import_status (Err why) = stop_status why
+
+-- Status 4 goes with why the file is no package, and with nothing else.
+abbrev pub TellsDecline : Written → Written → ℕ → Type 0
+TellsDecline old new result = result ≡ 4 → (why : Stop) × IsTold old new (stop_text why) 4 result
+
+-- Want of memory is a fault. Help and usage have their status, or 3 where they could not be printed; what they say is
+-- `clap`'s.
+abbrev pub TellsStatus : Option ℕ → Written → Written → ℕ → Type 0
+TellsStatus None old new result = IsTold old new (stop_text (stops.Fault faults.memory)) 3 result
+TellsStatus (Some status) old new result = (result ≡ status) ⊎ (result ≡ 3)
 
 -- ---- what a subcommand prints, and what it leaves of the files that were opened: by what they held and by the path
 -- that the words name
@@ -43,6 +67,13 @@ IsOutcome status old new (Err why) result = IsTold old new (stop_text why) (stop
 abbrev pub EndsInOutcome : {T : Type 0} → (T → ℕ) → Written → Written → Written → Result T Stop → ℕ → Type 0
 EndsInOutcome status old between new outcome result =
     IfErr outcome (λ why. (between ≡ old) ⊎ (stop_status why ≡ 3)) × IsOutcome status between new outcome result
+
+-- Work on the file that is there came to this, or was not done, and then its outcome is told.
+abbrev pub CameTo : {D S T : Type 0} (g : Ghosts D) → Written → Written → ℕ → Left D S g
+    → (Written → Written → Result T Stop → Type 0) → (Result T Stop → Bool) → (T → ℕ) → Type 0
+CameTo {T = T} g old new result left comes_to closes status =
+    (between : Written) × (outcome : Result T Stop) × WorkEnds StopsOld comes_to closes old between outcome left
+    × IsOutcome status between new outcome result
 
 module _ {D S : Type 0} (g : Ghosts D) (image : Image) (path : Text) (old new : Written) (result : ℕ)
     (left : Left D S g) where

@@ -1,5 +1,5 @@
 -- What work on a file comes to, by what was printed before and then is, and behind what the files are closed.
-use Rattle.std.specs.Prelude.{◌≡◌, ◌≤◌, ◌⊎◌, ◌==◌, ℕ, Bool, true, false, not, Result, Ok, Err, IfOk, IfErr, OnOk}
+use Rattle.std.specs.Prelude.{◌≡◌, ◌≤◌, ◌⊎◌, ◌==◌, ℕ, Bool, true, false, not, Result, Ok, Err, IfOk, IfErr}
 use Rattle.mm_definitions.specs.Streams.{Written}
 use Rattle.mm_definitions.specs.declared.answers.KitFault.{KitFault}
 use Rattle.mm_definitions.specs.declared.answers.Staged.{Staged}
@@ -27,16 +27,12 @@ closes_import (Err why) = false
 
 -- ---- what it comes to
 
--- The listing was printed; or why it was not is a fault, or nothing was printed.
-abbrev pub ListingEnds : Written → Written → Result (Unit {0}) Stop → Type 0
-ListingEnds old new done = OnOk done (new.failed ≡ old.failed) × IfErr done (λ why. (new ≡ old) ⊎ (stop_status why ≡ 3))
-
--- The records were answered, with the status of a fault where the writer failed; or why they were not is a fault, or
--- nothing was printed.
-abbrev pub RunEnds : Written → Written → Result ℕ Stop → Type 0
-RunEnds old new done =
-    IfOk done (λ status. (status ≤ 3) × ((status ≡ 3) ⊎ (new.failed ≡ old.failed)))
-    × IfErr done (λ why. (new.failed ≡ old.failed) × ((new ≡ old) ⊎ (stop_status why ≡ 3)))
+-- The work was done, with the status of a fault where the writer failed; or why it was not is a fault, or nothing was
+-- printed.
+abbrev pub StatusEnds : {T : Type 0} → (T → ℕ) → Written → Written → Result T Stop → Type 0
+StatusEnds status old new done =
+    IfOk done (λ it. (status it ≤ 3) × ((status it ≡ 3) ⊎ (new.failed ≡ old.failed)))
+    × IfErr done (λ why. (new ≡ old) ⊎ (stop_status why ≡ 3))
 
 -- the page was served to so many connections, or was not
 abbrev pub IsPageServed : ℕ → ℕ → Written → Written → Result ℕ Stop → Type 0

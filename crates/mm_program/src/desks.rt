@@ -10,19 +10,17 @@ ghost use Rattle.mm_core.specs.Viewers.{LeavesPackage};
 ghost use Rattle.mm_core.specs.Writing.{IsOut};
 ghost use Rattle.mm_desk.specs.Answered.{page_of};
 ghost use Rattle.mm_desk.specs.Sittings.{Sat, Visit};
-ghost use Rattle.mm_files.specs.Worked.{IsUnprinted};
-ghost use Rattle.mm_program.specs.Desks.{IsAttended, IsDeskDone, IsKey, IsSeated, LeavesDesk, NamesNone, Sits};
-ghost use Rattle.mm_program.specs.Desks.{TellsDesk, TellsSat, TellsSeat, WasSeated, address_text, table_of};
-ghost use Rattle.mm_program.specs.Files.{OnFile, StopsOld};
-ghost use Rattle.mm_program.specs.Served.{PrintsNothing};
+ghost use Rattle.mm_program.specs.Desks.{IsAttended, IsDeskDone, LeavesDesk, NamesNone, Sits, TellsDesk, TellsSat};
+ghost use Rattle.mm_program.specs.Desks.{address_text, table_of};
 ghost use Rattle.mm_program.specs.Stops.{StopsAny};
 ghost use Rattle.mm_program.specs.Told.{TellsSitting};
 ghost use Rattle.mm_program.specs.Worked.{closes_run};
-ghost use Rattle.mm_work.specs.Told.{TellsFailure, stop_status};
+ghost use Rattle.mm_work.specs.Told.{TellsFailure};
 
 use crate::clock::{Now, moment_or_now};
-use crate::files::{Worked, ends_well, on_old};
+use crate::files::ends_well;
 use crate::keys::key_of;
+use crate::outcomes::work_and_tell;
 use crate::sittings::attend;
 use crate::sockets::{Reading, next_stream, read_off};
 use mm_core::Session;
@@ -245,37 +243,6 @@ impl<'a> Works for DeskWork<'a> {
     }
 }
 
-/// Opens a desk on the package of a file, by a key.
-fn desk_file<'a, S: Start, W: Write>(
-    path: &'a str,
-    start: S,
-    work: &mut DeskWork<'_>,
-    output: &mut Io<W>,
-) -> Worked<'a, S, u8>
-    ensures status { IfOk result.0 (λ status. status ≤ 3) }
-    ensures working { IfOk result.0
-        (λ status. (status ≡ 3) ⊎ (streams.has_failed output.new ≡ streams.has_failed output.old)) }
-    ensures seated { IfOk result.0 (IsSeated work.old.port work.old.count work.old.key.now
-        (table_of work.old.page)
-        (written W.contents output.old) (written W.contents output.new)) }
-    ensures unused { IfErr result.0
-        (λ why. streams.has_failed output.new ≡ streams.has_failed output.old) }
-    ensures stopped { IfErr result.0
-        (λ why. PrintsNothing (written W.contents output.old) (written W.contents output.new)
-        ⊎ WasSeated work.old.port work.old.count work.old.key.now
-        (table_of work.old.page)
-        (written W.contents output.old) (written W.contents output.new)) }
-    ensures told { IfErr result.0 (λ why.
-        (written W.contents output.new ≡ written W.contents output.old) ⊎ (stop_status why ≡ 3)) }
-    ensures unprinted { IsUnprinted ⟦<FileFrom<S> as Disk>⟧ (written W.contents output.old)
-        (written W.contents output.new) result.1 }
-    ensures out { IsOut output.old → IsOut output.new }
-    ensures left { OnFile ⟦<FileFrom<S> as Disk>⟧ (image_at S.Start) path.now StopsOld TellsSat
-        (λ found after done. LeavesDesk found after done) closes_run result.0 result.1 }
-{
-    on_old(work.rt, path, start, work, output)
-}
-
 /// Whether no table is named, or one by a name.
 fn is_named(page: Option<&str>) -> bool
     ensures none { result ≡ false → NamesNone (table_of page.entry) }
@@ -284,30 +251,6 @@ fn is_named(page: Option<&str>) -> bool
     match page {
         Some(table) => is_name(table),
         None => true,
-    }
-}
-
-/// The subcommand `desk` by a key.
-fn desk_keyed<'a, S: Start, W: Write>(
-    path: &'a str,
-    start: S,
-    work: &mut DeskWork<'_>,
-    output: &mut Io<W>,
-) -> (u8, Left<'a, FileFrom<S>, S>)
-    ensures told { IsKey work.old.key.now
-        → TellsSeat work.old.port work.old.count (table_of work.old.page)
-        (written W.contents output.old) (written W.contents output.new) result.0 }
-    ensures sitting { TellsSitting ⟦<FileFrom<S> as Disk>⟧ (image_at S.Start) path.now
-        (written W.contents output.old) (written W.contents output.new) result.0 result.1 }
-    ensures status { result.0 ≤ 4 }
-    ensures unprinted { TellsFailure (streams.has_failed output.old)
-        (streams.has_failed output.new) result.0 }
-    ensures out { IsOut output.old → IsOut output.new }
-{
-    let (done, left) = desk_file(path, start, work, output);
-    match done {
-        Ok(status) => (status, left),
-        Err(why) => (tell_stop(output, why), left),
     }
 }
 
@@ -359,5 +302,5 @@ pub(crate) fn desk_told<'a, S: Start, W: Write>(
         key: key.as_str(),
         page,
     };
-    desk_keyed(path, start, &mut work, output)
+    work_and_tell(rt, path, start, &mut work, output)
 }

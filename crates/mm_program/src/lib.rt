@@ -2,6 +2,7 @@
 //!
 //! - `subcommands`: what each subcommand does.
 //! - `kits`: a folder of the system, and the subcommand `kit` on it.
+//! - `outcomes`: work on a file that is there, and what it came to, told.
 //! - `reporting`: those that change nothing.
 //! - `rows`: the one that prints rows of a table.
 //! - `migrating`: the one that brings a package of profile 1 to micrometres.
@@ -26,6 +27,7 @@ mod keys;
 mod kits;
 pub mod laws;
 mod migrating;
+mod outcomes;
 mod reporting;
 mod rows;
 mod serving;

@@ -5,12 +5,11 @@ ghost use Rattle.sqlite.specs.WalFiles.{image_at};
 ghost use Rattle.mm_definitions.specs.Streams.{has_failed, written};
 ghost use Rattle.mm_core.specs.Writing.{IsOut};
 ghost use Rattle.mm_work.specs.Told.{TellsFailure};
-ghost use Rattle.mm_program.specs.Files.{OnFile, StopsOld};
 ghost use Rattle.mm_program.specs.Left.{LeavesMigrated, TellsMigrated};
 ghost use Rattle.mm_program.specs.Told.{StopsCheck, TellsMigrate};
 ghost use Rattle.mm_program.specs.Worked.{closes_done};
 
-use crate::files::{Worked, on_old};
+use crate::files::on_old;
 use mm_definitions::streams::Io;
 use mm_files::{Left, Works};
 use mm_work::{Stop, migrate_package, tell_migration};
@@ -52,15 +51,6 @@ impl Works for Migration {
     }
 }
 
-/// Migrates the package of a file.
-fn migrate_file<'a, S: Start>(rt: &HostRuntime, path: &'a str, start: S) -> Worked<'a, S, ()>
-    ensures stopped { IfErr result.0 StopsCheck }
-    ensures left { OnFile ⟦<FileFrom<S> as Disk>⟧ (image_at S.Start) path.now StopsOld TellsMigrated
-        LeavesMigrated closes_done result.0 result.1 }
-{
-    on_old(rt, path, start, &mut Migration, &mut Io::new(io::sink()))
-}
-
 /// The subcommand `migrate`.
 pub(crate) fn migrate_told<'a, S: Start, W: Write>(
     rt: &HostRuntime,
@@ -74,6 +64,6 @@ pub(crate) fn migrate_told<'a, S: Start, W: Write>(
     ensures unprinted { TellsFailure (has_failed output.old) (has_failed output.new) result.0 }
     ensures out { IsOut output.old → IsOut output.new }
 {
-    let (outcome, left) = migrate_file(rt, path, start);
+    let (outcome, left) = on_old(rt, path, start, &mut Migration, &mut Io::new(io::sink()));
     (tell_migration(output, outcome), left)
 }

@@ -4,17 +4,16 @@ ghost use Rattle.std.specs.Prelude.{◌≡◌, ◌≤◌, false, IfErr};
 ghost use Rattle.sqlite.specs.WalFiles.{image_at};
 ghost use Rattle.mm_definitions.specs.Streams.{has_failed, written};
 ghost use Rattle.mm_core.specs.Writing.{IsOut};
-ghost use Rattle.mm_files.specs.Worked.{IsUnprinted};
 ghost use Rattle.mm_work.specs.Told.{TellsFailure};
-ghost use Rattle.mm_program.specs.Files.{OnFile, StopsOld};
 ghost use Rattle.mm_program.specs.Left.{LeavesSame, TellsChecked, TellsListing};
 ghost use Rattle.mm_program.specs.Told.{StopsCheck, TellsCheck, TellsDecline, TellsList};
-ghost use Rattle.mm_program.specs.Worked.{ListingEnds, closes_done};
+ghost use Rattle.mm_program.specs.Worked.{StatusEnds, closes_done};
 
-use crate::files::{Worked, on_old};
+use crate::files::on_old;
+use crate::outcomes::work_and_tell;
 use mm_definitions::streams::Io;
 use mm_files::{Left, Works};
-use mm_work::{DONE, Stop, check_package, list_package, tell_check, tell_stop};
+use mm_work::{Stop, check_package, list_package, tell_check};
 use sqlite::{Alter, Connection, FileFrom, Start};
 use sqlite_disk::Disk;
 use std::alloc::Global;
@@ -53,15 +52,6 @@ impl Works for Check {
     }
 }
 
-/// Checks the package of a file.
-fn check_file<'a, S: Start>(rt: &HostRuntime, path: &'a str, start: S) -> Worked<'a, S, ()>
-    ensures stopped { IfErr result.0 StopsCheck }
-    ensures left { OnFile ⟦<FileFrom<S> as Disk>⟧ (image_at S.Start) path.now StopsOld TellsChecked
-        (λ found after done. LeavesSame found after) closes_done result.0 result.1 }
-{
-    on_old(rt, path, start, &mut Check, &mut Io::new(io::sink()))
-}
-
 /// The subcommand `check`.
 pub(crate) fn check_told<'a, S: Start, W: Write>(
     rt: &HostRuntime,
@@ -75,7 +65,7 @@ pub(crate) fn check_told<'a, S: Start, W: Write>(
     ensures unprinted { TellsFailure (has_failed output.old) (has_failed output.new) result.0 }
     ensures out { IsOut output.old → IsOut output.new }
 {
-    let (outcome, left) = check_file(rt, path, start);
+    let (outcome, left) = on_old(rt, path, start, &mut Check, &mut Io::new(io::sink()));
     (tell_check(output, outcome), left)
 }
 
@@ -86,7 +76,7 @@ struct Listing;
 impl Works for Listing {
     type Done = Result<(), Stop>;
 
-    ghost comes_to = { λ work. ListingEnds };
+    ghost comes_to = { λ work. StatusEnds (λ listed. 0) };
 
     ghost tells = { λ work. TellsListing };
 
@@ -111,26 +101,6 @@ impl Works for Listing {
     }
 }
 
-/// Writes the listing of the package of a file.
-fn list_file<'a, S: Start, W: Write>(
-    rt: &HostRuntime,
-    path: &'a str,
-    start: S,
-    output: &mut Io<W>,
-) -> Worked<'a, S, ()>
-    ensures listed { ListingEnds (written W.contents output.old)
-        (written W.contents output.new) result.0 }
-    ensures unprinted { IsUnprinted ⟦<FileFrom<S> as Disk>⟧ (written W.contents output.old)
-        (written W.contents output.new) result.1 }
-    ensures out { IsOut output.old → IsOut output.new }
-    ensures left { OnFile ⟦<FileFrom<S> as Disk>⟧ (image_at S.Start) path.now StopsOld
-        (λ found done. TellsListing found (written W.contents output.old)
-        (written W.contents output.new) done)
-        (λ found after done. LeavesSame found after) closes_done result.0 result.1 }
-{
-    on_old(rt, path, start, &mut Listing, output)
-}
-
 /// The subcommand `list`.
 pub(crate) fn list_told<'a, S: Start, W: Write>(
     rt: &HostRuntime,
@@ -146,9 +116,5 @@ pub(crate) fn list_told<'a, S: Start, W: Write>(
     ensures unprinted { TellsFailure (has_failed output.old) (has_failed output.new) result.0 }
     ensures out { IsOut output.old → IsOut output.new }
 {
-    let (done, left) = list_file(rt, path, start, output);
-    match done {
-        Ok(()) => (DONE, left),
-        Err(why) => (tell_stop(output, why), left),
-    }
+    work_and_tell(rt, path, start, &mut Listing, output)
 }

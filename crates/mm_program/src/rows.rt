@@ -4,19 +4,17 @@ ghost use Rattle.std.specs.Prelude.{◌≡◌, ◌≤◌, false};
 ghost use Rattle.sqlite.specs.WalFiles.{image_at};
 ghost use Rattle.mm_definitions.specs.Streams.{has_failed, written};
 ghost use Rattle.mm_core.specs.Writing.{IsOut};
-ghost use Rattle.mm_files.specs.Worked.{IsUnprinted};
 ghost use Rattle.mm_work.specs.Told.{TellsFailure};
-ghost use Rattle.mm_program.specs.Files.{OnFile, StopsOld};
-ghost use Rattle.mm_program.specs.Left.{LeavesSame};
-ghost use Rattle.mm_program.specs.Rows.{ShowingEnds, TellsShown};
+ghost use Rattle.mm_program.specs.Left.{LeavesSame, TellsShown};
 ghost use Rattle.mm_program.specs.Told.{TellsDecline, TellsShow};
-ghost use Rattle.mm_program.specs.Worked.{closes_run};
+ghost use Rattle.mm_program.specs.Worked.{StatusEnds, closes_run};
 
-use crate::files::{Worked, ends_well, on_old};
+use crate::files::ends_well;
+use crate::outcomes::work_and_tell;
 use mm_definitions::names::Name;
 use mm_definitions::streams::Io;
 use mm_files::{Left, Works};
-use mm_work::{REFUSED, Stop, show_package, tell_bytes, tell_stop};
+use mm_work::{REFUSED, Stop, show_package, tell_bytes};
 use sqlite::{Alter, Connection, FileFrom, Start};
 use sqlite_disk::Disk;
 use std::alloc::Global;
@@ -32,7 +30,7 @@ struct Showing<'a> {
 impl<'a> Works for Showing<'a> {
     type Done = Result<u8, Stop>;
 
-    ghost comes_to = { λ work. ShowingEnds };
+    ghost comes_to = { λ work. StatusEnds (λ status. status) };
 
     ghost tells = { λ work. TellsShown work.table.now work.id };
 
@@ -59,28 +57,6 @@ impl<'a> Works for Showing<'a> {
     }
 }
 
-/// Prints rows of the package of a file.
-fn show_file<'a, S: Start, W: Write>(
-    rt: &HostRuntime,
-    path: &'a str,
-    start: S,
-    table: &Name,
-    id: Option<i64>,
-    output: &mut Io<W>,
-) -> Worked<'a, S, u8>
-    ensures shown { ShowingEnds (written W.contents output.old)
-        (written W.contents output.new) result.0 }
-    ensures unprinted { IsUnprinted ⟦<FileFrom<S> as Disk>⟧ (written W.contents output.old)
-        (written W.contents output.new) result.1 }
-    ensures out { IsOut output.old → IsOut output.new }
-    ensures left { OnFile ⟦<FileFrom<S> as Disk>⟧ (image_at S.Start) path.now StopsOld
-        (λ found done. TellsShown table.now id found (written W.contents output.old)
-        (written W.contents output.new) done)
-        (λ found after done. LeavesSame found after) closes_run result.0 result.1 }
-{
-    on_old(rt, path, start, &mut Showing { table, id }, output)
-}
-
 /// The subcommand `show`. `refused 12` where the table is no name, and then no file is opened.
 pub(crate) fn show_told<'a, S: Start, W: Write>(
     rt: &HostRuntime,
@@ -105,9 +81,6 @@ pub(crate) fn show_told<'a, S: Start, W: Write>(
             Left::Untouched(start),
         );
     };
-    let (done, left) = show_file(rt, path, start, &name, id, output);
-    match done {
-        Ok(status) => (status, left),
-        Err(why) => (tell_stop(output, why), left),
-    }
+    let mut showing = Showing { table: &name, id };
+    work_and_tell(rt, path, start, &mut showing, output)
 }

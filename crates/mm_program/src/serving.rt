@@ -5,27 +5,26 @@ ghost use Rattle.mm_definitions.specs.Faults as faults;
 ghost use Rattle.mm_definitions.specs.Streams.{written};
 ghost use Rattle.mm_definitions.specs.Streams as streams;
 ghost use Rattle.mm_core.specs.Writing.{IsOut};
-ghost use Rattle.mm_files.specs.Worked.{IsUnprinted};
-ghost use Rattle.mm_work.specs.Told.{TellsFailure, stop_status};
+ghost use Rattle.mm_work.specs.Told.{TellsFailure};
 ghost use Rattle.sqlite.specs.Held.{state};
 ghost use Rattle.sqlite.specs.WalFiles.{image_at};
 ghost use Rattle.mm_core.specs.Parts.{connection};
 ghost use Rattle.mm_core.specs.Viewers.{LeavesPackage};
-ghost use Rattle.mm_program.specs.Files.{OnFile, StopsOld};
 ghost use Rattle.mm_program.specs.Left.{LeavesSame, TellsServed};
-ghost use Rattle.mm_program.specs.Served.{PrintsNothing, IsServing, TellsServe, WasServed};
+ghost use Rattle.mm_program.specs.Served.{IsServing, TellsServe};
 ghost use Rattle.mm_program.specs.Told.{TellsService};
 ghost use Rattle.mm_program.specs.Worked.{IsPageServed, closes_run};
 
 use crate::connections::{Serves, serve_on};
-use crate::files::{Worked, ends_well, on_old};
+use crate::files::ends_well;
+use crate::outcomes::work_and_tell;
 use crate::sockets::{Reading, next_stream, read_off};
 use mm_core::Session;
 use mm_definitions::answers::{Fault, PageFault};
 use mm_definitions::streams::Io;
 use mm_files::{Left, Works};
 use mm_page::serve_one;
-use mm_work::{FAULT, Stop, adopt_package, tell_serving, tell_stop};
+use mm_work::{FAULT, Stop, adopt_package, tell_serving};
 use sqlite::{Alter, Connection, FileFrom, Start};
 use sqlite_disk::Disk;
 use std::alloc::Global;
@@ -136,37 +135,6 @@ impl<'a> Works for Page<'a> {
     }
 }
 
-/// Serves the package of a file.
-fn serve_file<'a, S: Start, W: Write>(
-    rt: &HostRuntime,
-    path: &'a str,
-    start: S,
-    port: u16,
-    count: u32,
-    output: &mut Io<W>,
-) -> Worked<'a, S, u8>
-    ensures status { IfOk result.0 (λ status. status ≤ 3) }
-    ensures working { IfOk result.0
-        (λ status. (status ≡ 3) ⊎ (streams.has_failed output.new ≡ streams.has_failed output.old)) }
-    ensures served { IfOk result.0
-        (IsServing port count (written W.contents output.old) (written W.contents output.new)) }
-    ensures unused { IfErr result.0
-        (λ why. streams.has_failed output.new ≡ streams.has_failed output.old) }
-    ensures stopped { IfErr result.0
-        (λ why. PrintsNothing (written W.contents output.old) (written W.contents output.new)
-        ⊎ WasServed port count (written W.contents output.old)
-        (written W.contents output.new)) }
-    ensures told { IfErr result.0 (λ why.
-        (written W.contents output.new ≡ written W.contents output.old) ⊎ (stop_status why ≡ 3)) }
-    ensures unprinted { IsUnprinted ⟦<FileFrom<S> as Disk>⟧ (written W.contents output.old)
-        (written W.contents output.new) result.1 }
-    ensures out { IsOut output.old → IsOut output.new }
-    ensures left { OnFile ⟦<FileFrom<S> as Disk>⟧ (image_at S.Start) path.now StopsOld TellsServed
-        (λ found after done. LeavesSame found after) closes_run result.0 result.1 }
-{
-    on_old(rt, path, start, &mut Page { rt, port, count }, output)
-}
-
 /// The subcommand `serve`.
 pub(crate) fn serve_told<'a, S: Start, W: Write>(
     rt: &HostRuntime,
@@ -185,9 +153,5 @@ pub(crate) fn serve_told<'a, S: Start, W: Write>(
         (streams.has_failed output.new) result.0 }
     ensures out { IsOut output.old → IsOut output.new }
 {
-    let (done, left) = serve_file(rt, path, start, port, count, output);
-    match done {
-        Ok(status) => (status, left),
-        Err(why) => (tell_stop(output, why), left),
-    }
+    work_and_tell(rt, path, start, &mut Page { rt, port, count }, output)
 }

@@ -6,22 +6,21 @@ ghost use Rattle.mm_definitions.specs.Streams.{has_failed, inside, written};
 ghost use Rattle.clap.specs.Words.{kind_of};
 ghost use Rattle.mm_arguments.specs.Requests as arguments;
 ghost use Rattle.mm_core.specs.Writing.{IsOut};
-ghost use Rattle.mm_files.specs.Worked.{IsUnprinted};
 ghost use Rattle.mm_files.specs.declared.left.Left as lefts;
 ghost use Rattle.sqlite_disk.specs.declared.start.Wary.{Wary};
 ghost use Rattle.mm_work.specs.Told.{TellsFailure};
-ghost use Rattle.mm_program.specs.Files.{OnFile, StopsNew, StopsOld, WasBare};
+ghost use Rattle.mm_program.specs.Files.{StopsNew};
 ghost use Rattle.mm_program.specs.Left.{LeavesMade, LeavesRun, TellsRun};
-ghost use Rattle.mm_program.specs.Printed.{PrintsWords};
 ghost use Rattle.mm_program.specs.Told.{TellsDecline, TellsInit, TellsRan, TellsStatus, TellsWords};
-ghost use Rattle.mm_program.specs.Worked.{RunEnds, closes_done, closes_run};
+ghost use Rattle.mm_program.specs.Worked.{StatusEnds, closes_done, closes_run};
 
 use crate::clock::{Now, moment_or_now};
 use crate::desks::desk_told;
 use crate::explaining::explain_told;
-use crate::files::{Worked, ends_well, on_new, on_old};
+use crate::files::{ends_well, on_new};
 use crate::kits::{SystemFolder, import_and_tell, pieces_wanted};
 use crate::migrating::migrate_told;
+use crate::outcomes::work_and_tell;
 use crate::reporting::{check_told, list_told};
 use crate::rows::show_told;
 use crate::serving::serve_told;
@@ -71,16 +70,6 @@ impl Works for Making {
     }
 }
 
-/// Makes a package in a new file.
-fn init_file<'a, S: Start>(rt: &HostRuntime, path: &'a str, start: S) -> Worked<'a, S, ()>
-    ensures stopped { IfErr result.0 StopsNew }
-    ensures left { OnFile ⟦<FileFrom<S> as Disk>⟧ (image_at S.Start) path.now StopsNew (λ found done. ⊤)
-        LeavesMade closes_done result.0 result.1 }
-    ensures bare { WasBare ⟦<FileFrom<S> as Disk>⟧ (image_at S.Start) result.1 }
-{
-    on_new(rt, path, start, &mut Making, &mut Io::new(io::sink()))
-}
-
 /// The run of the records of an input.
 #[derive(Drop)]
 struct Run<'a, R: Read> {
@@ -91,7 +80,7 @@ struct Run<'a, R: Read> {
 impl<'a, R: Read> Works for Run<'a, R> {
     type Done = Result<u8, Stop>;
 
-    ghost comes_to = { λ work. RunEnds };
+    ghost comes_to = { λ work. StatusEnds (λ status. status) };
 
     ghost tells = { λ work found old new done. TellsRun found done };
 
@@ -118,27 +107,6 @@ impl<'a, R: Read> Works for Run<'a, R> {
     }
 }
 
-/// Runs the records of the input on the package of a file.
-fn run_file<'a, S: Start, R: Read, W: Write>(
-    rt: &HostRuntime,
-    path: &'a str,
-    start: S,
-    input: &mut Io<R>,
-    output: &mut Io<W>,
-    at: Moment,
-) -> Worked<'a, S, u8>
-    ensures run { RunEnds (written W.contents output.old) (written W.contents output.new) result.0 }
-    ensures unprinted { IsUnprinted ⟦<FileFrom<S> as Disk>⟧ (written W.contents output.old)
-        (written W.contents output.new) result.1 }
-    ensures out { IsOut output.old → IsOut output.new }
-    ensures left { OnFile ⟦<FileFrom<S> as Disk>⟧ (image_at S.Start) path.now StopsOld TellsRun
-        (λ found after done. LeavesRun (R.remaining (inside input.old)) at found after
-        (written W.contents output.old) (written W.contents output.new) done)
-        closes_run result.0 result.1 }
-{
-    on_old(rt, path, start, &mut Run { input, at }, output)
-}
-
 /// The subcommand `init`.
 fn init_told<'a, S: Start, W: Write>(
     rt: &HostRuntime,
@@ -152,7 +120,7 @@ fn init_told<'a, S: Start, W: Write>(
     ensures unprinted { TellsFailure (has_failed output.old) (has_failed output.new) result.0 }
     ensures out { IsOut output.old → IsOut output.new }
 {
-    let (outcome, left) = init_file(rt, path, start);
+    let (outcome, left) = on_new(rt, path, start, &mut Making, &mut Io::new(io::sink()));
     (tell_init(output, outcome), left)
 }
 
@@ -189,11 +157,8 @@ fn run_told<'a, S: Start, R: Read, W: Write>(
             );
         }
     };
-    let (done, left) = run_file(rt, path, start, input, output, moment);
-    match done {
-        Ok(status) => (status, left),
-        Err(why) => (tell_stop(output, why), left),
-    }
+    let mut run = Run { input, at: moment };
+    work_and_tell(rt, path, start, &mut run, output)
 }
 
 /// Prints what the reader of the words answered in place of a request: help, or what is wrong with them.
@@ -262,30 +227,6 @@ pub fn program_on<'a, S: Start, R: Read, W: Write>(
     }
 }
 
-/// The same, which lets the files go.
-fn status_on<S: Start, R: Read, W: Write>(
-    rt: &HostRuntime,
-    words: &[&str],
-    start: S,
-    input: &mut Io<R>,
-    output: &mut Io<W>,
-) -> u8
-    requires { S.Start.is_mixing ≡ false }
-    ensures told { PrintsWords (map (λ word. word.now) words.entry.now)
-        (written W.contents output.old) (written W.contents output.new) result }
-    ensures all { (left : lefts.Left _ S _)
-        × TellsWords {S = S} ⟦<FileFrom<S> as Disk>⟧ (image_at S.Start) (R.remaining (inside input.old))
-        (map (λ word. word.now) words.entry.now) (written W.contents output.old)
-        (written W.contents output.new) result left }
-    ensures status { result ≤ 4 }
-    ensures unprinted { TellsFailure (has_failed output.old) (has_failed output.new) result }
-    ensures out { IsOut output.old → IsOut output.new }
-{
-    let (status, left) = program_on(rt, words, start, input, output);
-    left.let_go();
-    status
-}
-
 /// The whole program, on files that the system opens; what is left of them `program_on` says, which it calls. Of how a
 /// crash mixes old bytes and new ones nothing is supposed: each commit is synced twice.
 pub fn program<R: Read, W: Write>(
@@ -294,8 +235,6 @@ pub fn program<R: Read, W: Write>(
     input: &mut Io<R>,
     output: &mut Io<W>,
 ) -> u8
-    ensures told { PrintsWords (map (λ word. word.now) words.entry.now)
-        (written W.contents output.old) (written W.contents output.new) result }
     ensures all { (left : lefts.Left _ Wary _)
         × TellsWords {S = Wary} ⟦<FileFrom<Wary> as Disk>⟧ (image_at ⟦<Wary as Start>⟧) (R.remaining (inside input.old))
         (map (λ word. word.now) words.entry.now) (written W.contents output.old)
@@ -304,5 +243,7 @@ pub fn program<R: Read, W: Write>(
     ensures unprinted { TellsFailure (has_failed output.old) (has_failed output.new) result }
     ensures out { IsOut output.old → IsOut output.new }
 {
-    status_on(rt, words, Wary, input, output)
+    let (status, left) = program_on(rt, words, Wary, input, output);
+    left.let_go();
+    status
 }

@@ -1,3 +1,3 @@
-pub mod Listed
+pub mod Texts
 mod Imported
 mod Showing

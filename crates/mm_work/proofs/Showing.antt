@@ -1,6 +1,6 @@
--- A package that was adopted and then shown, to the end of the text or to a fault.
+-- What is printed of rows, or of why there are none.
 use Rattle.std.proofs.Common.{◌≡◌, ◌∙◌, ℕ, ℤ, false, true, List, [], ◌∷◌, Option, Some, None, Result, Ok, Err, refl}
-use Rattle.std.proofs.Common.{sym, ap, subst, arith}
+use Rattle.std.proofs.Common.{sym, ap, subst}
 use Rattle.std.specs.Prelude.{IsErr}
 use Rattle.std.specs.Io.KnownBytes.{Appends}
 use Rattle.sqlite.specs.State.{State, HasCleanDisk}
@@ -11,14 +11,13 @@ use Rattle.mm_definitions.specs.Streams.{Written}
 use Rattle.mm_definitions.specs.declared.answers.Fault.{Fault}
 use Rattle.mm_store.specs.Stands.{IsSettled}
 use Rattle.mm_store.proofs.Seen.{seen_of}
-use Rattle.mm_store.proofs.Quiet.{quiet_then}
-use Rattle.mm_core.proofs.Adopting.{was_adopted}
 use Rattle.mm_core.specs.Adopted.{IsAdopted}
 use Rattle.mm_core.specs.Viewers.{IsOn, LeavesPackage}
-use Rattle.mm_core.specs.Writing.{IsBegun, ListingTellsWriter}
+use Rattle.mm_core.specs.Writing.{IsBegun}
 use Rattle.mm_show.specs.Records.{row_records}
 use Rattle.mm_show.specs.Showing.{ShowsRecords, records_by, rows_shown, show_refusal}
-use Rattle.mm_work.specs.Shown.{IsShowing, IsShowingCut, TellsReason, TellsShownRows, status_by, text_by}
+use Rattle.mm_work.specs.Shown.{TellsReason, TellsShownRows, status_by, text_by}
+use Rattle.mm_work.proofs.Texts.{early}
 
 -- ---- what is printed
 
@@ -62,40 +61,13 @@ told_begun p table id old new fault (Err other) stops begun =
 
 -- ---- the connection
 
-module _ (table : Text) (id : Option ℤ) (old mid new : State) (adopted : IsAdopted old mid)
+module _ (old mid new : State) (adopted : IsAdopted old mid)
     (kept : LeavesPackage mid new) where
-  early : HasCleanDisk new → HasCleanDisk mid
-  early clean = omega (arith, clean, kept.survives.clean)
-
-  abbrev Tells : Written → Written → Result ℕ Fault → Type 0
-  Tells before after r = (p : Package) → IsOn false mid new p → TellsShownRows p table id before after r
-
-  on : (clean : HasCleanDisk new) (p : Package) → IsSettled current old p → IsOn false mid new p
-  on clean p settled works = (
-    clean,
-    adopted.meets (early clean) p (seen_of current _ p settled),
-    seen_of current mid p (adopted.settled (early clean) p settled),
-  )
-
-  pub shows : (held holds : Written) (status : ℕ) → Tells held holds (Ok status)
-      → IsShowing table id old new held.contents holds.contents status
-  shows held holds status told = record {
-    survives = quiet_then old mid new adopted.survives kept.survives;
-    adopted = was_adopted old mid new adopted early;
-    settled = λ clean p s. kept.settled clean p (adopted.settled (early clean) p s);
-    meets = λ clean p s. adopted.meets (early clean) p (seen_of current _ p s);
-    printed = λ clean p s. (told p (on clean p s)).0;
-    told = λ clean p s. (told p (on clean p s)).1;
-  }
-
-  pub cuts : (held holds : Written) (fault : Fault) → Tells held holds (Err fault)
-      → ListingTellsWriter held.failed holds.failed (Err fault)
-      → IsShowingCut table id old new held holds fault
-  cuts held holds fault told writer = record {
-    survives = quiet_then old mid new adopted.survives kept.survives;
-    adopted = was_adopted old mid new adopted early;
-    settled = λ clean p s. kept.settled clean p (adopted.settled (early clean) p s);
-    meets = λ clean p s. adopted.meets (early clean) p (seen_of current _ p s);
-    begun = λ clean p s. told p (on clean p s);
-    writer = writer;
-  }
+  -- of each package that was settled
+  pub on : HasCleanDisk new → (p : Package) → IsSettled current old p → IsOn false mid new p
+  on clean p settled works =
+      let was = early old mid new adopted kept.survives kept.settled clean in (
+        clean,
+        adopted.meets was p (seen_of current _ p settled),
+        seen_of current mid p (adopted.settled was p settled),
+      )

@@ -7,3 +7,4 @@ pub mod Migrated
 pub mod Stops
 pub mod Imports
 pub mod Shown
+pub mod Texts

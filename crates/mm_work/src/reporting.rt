@@ -7,7 +7,9 @@ ghost use Rattle.mm_io.specs.Sending.{IsOut};
 ghost use Rattle.mm_core.specs.Adopted.{IsAdopted};
 ghost use Rattle.mm_work.specs.Declined.{IsDeclined};
 ghost use Rattle.mm_work.specs.Told.{IsTold, stop_status};
-ghost use Rattle.mm_work.specs.Looked.{IsListing, IsUnlisted, check_status, check_text};
+ghost use Rattle.mm_core.specs.Listing.{listing};
+ghost use Rattle.mm_work.specs.Looked.{check_status, check_text};
+ghost use Rattle.mm_work.specs.Texts.{IsTextShown, IsTextUnshown};
 
 use crate::package::adopt_package;
 use crate::stop::Stop;
@@ -42,10 +44,11 @@ pub fn list_package<S: Alter + Drop, W: Write>(
 ) -> Result<Connection<S>, (Connection<S>, Stop)>
     requires { conn.in_transaction ≡ false }
     ensures working { OnOk result (has_failed output.new ≡ has_failed output.old) }
-    ensures listed { IfOk result (λ end. IsListing (state S.Store conn) (state S.Store end)
-        (W.contents (inside output.old)) (W.contents (inside output.new))) }
+    ensures listed { IfOk result (λ end. IsTextShown listing (λ p. tt {0}) (state S.Store conn)
+        (state S.Store end) (W.contents (inside output.old)) (W.contents (inside output.new))
+        (tt {0})) }
     ensures idle { IfOk result (λ end. end.in_transaction ≡ false) }
-    ensures unlisted { IfErr result (λ e. IsUnlisted (state S.Store conn) (state S.Store e.0)
+    ensures unlisted { IfErr result (λ e. IsTextUnshown listing (state S.Store conn) (state S.Store e.0)
         (written W.contents output.old) (written W.contents output.new) e.1) }
     ensures handed_back { IfErr result (λ e. e.0.in_transaction ≡ false) }
     ensures stopped { IfErr result (λ e. (output.new ≡ output.old) ⊎ (stop_status e.1 ≡ 3)) }

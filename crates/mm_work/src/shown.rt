@@ -7,7 +7,8 @@ ghost use Rattle.mm_definitions.specs.Streams.{has_failed, inside, written};
 ghost use Rattle.mm_io.specs.Sending.{IsOut};
 ghost use Rattle.mm_core.specs.Viewers.{IsOn, LeavesPackage};
 ghost use Rattle.mm_core.specs.Writing.{ListingTellsWriter};
-ghost use Rattle.mm_work.specs.Shown.{IsShowing, IsUnshown, TellsReason, TellsShownRows};
+ghost use Rattle.mm_work.specs.Shown.{TellsReason, TellsShownRows, shown_status, shown_text};
+ghost use Rattle.mm_work.specs.Texts.{IsTextShown, IsTextUnshown};
 ghost use Rattle.mm_work.specs.Told.{stop_status};
 
 use crate::package::adopt_package;
@@ -76,12 +77,13 @@ pub fn show_package<S: Alter + Drop, W: Write>(
     requires { conn.in_transaction ≡ false }
     ensures status { IfOk result (λ end. end.1 ≤ 1) }
     ensures working { OnOk result (has_failed output.new ≡ has_failed output.old) }
-    ensures shown { IfOk result (λ end. IsShowing table.now id (state S.Store conn)
-        (state S.Store end.0) (W.contents (inside output.old)) (W.contents (inside output.new))
-        end.1) }
+    ensures shown { IfOk result (λ end. IsTextShown (λ p. shown_text p table.now id)
+        (λ p. shown_status p table.now id) (state S.Store conn) (state S.Store end.0)
+        (W.contents (inside output.old)) (W.contents (inside output.new)) end.1) }
     ensures idle { IfOk result (λ end. end.0.in_transaction ≡ false) }
-    ensures unshown { IfErr result (λ e. IsUnshown table.now id (state S.Store conn)
-        (state S.Store e.0) (written W.contents output.old) (written W.contents output.new) e.1) }
+    ensures unshown { IfErr result (λ e. IsTextUnshown (λ p. shown_text p table.now id)
+        (state S.Store conn) (state S.Store e.0)
+        (written W.contents output.old) (written W.contents output.new) e.1) }
     ensures handed_back { IfErr result (λ e. e.0.in_transaction ≡ false) }
     ensures stopped { IfErr result (λ e. (output.new ≡ output.old) ⊎ (stop_status e.1 ≡ 3)) }
     ensures out { IsOut output.old → IsOut output.new }

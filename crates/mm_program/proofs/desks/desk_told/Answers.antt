@@ -1,6 +1,8 @@
 use Rattle.std.proofs.Common.{Err, inl, inr, refl, rules}
 use Rattle.mm_definitions.specs.Streams.{written}
 use Rattle.mm_work.specs.declared.stop.Stop.TheVariants as stops
+use Rattle.mm_program.specs.Desks.{IsSeated, table_of}
+use Rattle.mm_program.proofs.Ended.{seats, service_ends, service_tells}
 use Rattle.mm_program.proofs.desks.desk_told.Goals as goal
 
 pub returns-in-Err-clause-told : goal.returns-in-Err-clause-told
@@ -23,3 +25,20 @@ returns-in-Err-clause-sitting g c = inr (
   refl,
   (stops.Fault c.in-Err.fault, refl, c.in-Err.ensures.fault),
 )
+
+pub work_and_tell-requires : goal.work_and_tell-requires
+work_and_tell-requires g c = record {
+  ends = λ old new done came.
+      service_ends (IsSeated c.args.port c.args.count c.as_str.result.now (table_of c.args.page)) old new done came;
+}
+
+pub returns-clause-told : goal.returns-clause-told
+returns-clause-told g c = inr (
+  c.is_named.ensures.named (search rules),
+  seats c.args.port c.args.count c.as_str.result.now (table_of c.args.page) _ _ _ (search rules)
+      (service_tells (IsSeated c.args.port c.args.count c.as_str.result.now (table_of c.args.page)) _ _ _ _
+      c.work_and_tell.ensures.came),
+)
+
+pub returns-clause-sitting : goal.returns-clause-sitting
+returns-clause-sitting g c = inr c.work_and_tell.ensures.told

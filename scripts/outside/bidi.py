@@ -85,14 +85,19 @@ DEVICE = """coords => {
 }"""
 # Has what is put into a storage end its change, behind that, by the error of a full one.
 STORAGE = """isFull => {
-  const store = IDBObjectStore.prototype, full = new DOMException('', 'QuotaExceededError');
+  const store = IDBObjectStore.prototype, change = IDBTransaction.prototype;
+  const full = new DOMException('', 'QuotaExceededError'), refused = new WeakSet();
   store.wasPut ??= store.put;
+  change.wasCommit ??= change.commit;
   store.put = isFull ? function(...it) {
     const request = store.wasPut.apply(this, it), transaction = this.transaction;
+    refused.add(transaction);
     Object.defineProperty(transaction, 'error', { value: full });
     queueMicrotask(() => { try { transaction.abort(); } catch { /* it has ended */ } });
     return request;
   } : store.wasPut;
+  // What is committed at once can't be ended any more.
+  change.commit = isFull ? function() { if (!refused.has(this)) change.wasCommit.call(this); } : change.wasCommit;
 }"""
 TEXT, CLOSE, PING, PONG = 1, 8, 9, 10
 

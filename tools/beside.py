@@ -11,13 +11,17 @@ import pathlib
 import select
 import subprocess
 import tempfile
+import threading
 import time
+import urllib.parse
 
 from gdal_python import MISSING, python_with_gdal
 
 SERVER = pathlib.Path(__file__).resolve().parent / "maps.py"
 # How many seconds all maps may take to open: one on a disk of the network may take long.
 PATIENCE = 30
+# The program of maps is given up where it ends so often one behind another, each time within so many seconds.
+ENDS, SOON = 3, 5
 
 
 def list_of(file):
@@ -94,16 +98,23 @@ def chosen(file, named, forgets, tell):
 
 class Maps:
     """The program that draws maps for a page. It ends with its standard input, and so with this one, however it
-    ends."""
+    ends. Where it ends by itself it is started again at its address, so that the page goes on."""
 
-    def __init__(self, python, paths, origin):
-        self.running = subprocess.Popen(
-            [python, "-B", SERVER, origin, *paths],
+    def __init__(self, python, paths, origin, tell):
+        self.words, self.tell = [python, "-B", SERVER, origin, *paths], tell
+        self.at, self.is_over, self.lock = "", False, threading.Lock()
+        self.running = self.start()
+
+    def start(self):
+        """Starts the program, at the port and with the token that it had before, if any."""
+        return subprocess.Popen(
+            self.words,
             stdin=subprocess.PIPE,
             stdout=subprocess.PIPE,
             stderr=subprocess.DEVNULL,
             start_new_session=True,
             bufsize=0,
+            env={**os.environ, "MMPKG_MAPS": self.at},
         )
 
     def lines(self):
@@ -122,14 +133,43 @@ class Maps:
     def opened(self):
         """The address of the maps, and what can't be opened, each with why; None where the program isn't ready."""
         address, *unopened, ready = self.lines() or [""]
-        return (address, unopened) if address and ready == "ready" else None
+        if not address or ready != "ready":
+            return None
+        told = urllib.parse.urlsplit(address)
+        self.at = f"{told.port}{told.path.rstrip('/')}"
+        threading.Thread(target=self.keep, daemon=True).start()
+        return self.at, unopened
 
-    def end(self):
+    def keep(self):
+        """Starts the program again each time that it ends by itself, but not where it does so again and again."""
+        quick = 0
+        while True:
+            began = time.monotonic()
+            self.running.wait()
+            quick = quick + 1 if time.monotonic() - began < SOON else 0
+            with self.lock:
+                if self.is_over:
+                    return
+                self.let_go()
+                if quick < ENDS:
+                    self.running = self.start()
+            if quick >= ENDS:
+                self.tell(f"What GDAL does beside the page ended {ENDS} times as soon as it began: it is missing.")
+                return
+            self.tell("What GDAL does beside the page ended: it is started again.")
+            self.lines()
+
+    def let_go(self):
         with contextlib.suppress(OSError):
             self.running.stdin.close()
         self.running.kill()
         self.running.wait()
         self.running.stdout.close()
+
+    def end(self):
+        with self.lock:
+            self.is_over = True
+            self.let_go()
 
 
 @contextlib.contextmanager
@@ -153,7 +193,7 @@ def begun(paths, origin, tell):
         tell(f"{without}: {MISSING}")
         return None
     try:
-        return Maps(python, paths, origin)
+        return Maps(python, paths, origin, tell)
     except OSError as error:
         tell(f"{without}: {error}")
         return None

@@ -277,11 +277,10 @@ class Desk:
         if opened is None:
             tell("What GDAL does beside the page, as maps behind the work, is missing: it ended, or took too long.")
             return ""
-        address, unopened = opened
+        at, unopened = opened
         for why in unopened:
             tell(f"Behind the work, not shown: {why}")
-        told = urllib.parse.urlsplit(address)
-        return f"&maps={told.port}{told.path.rstrip('/')}"
+        return f"&maps={at}"
 
     def day(self):
         """Starts the program again and again, until it ends well."""

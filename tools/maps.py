@@ -4,6 +4,7 @@
 
 tools/crew.py starts it, by an interpreter that has GDAL's modules. It prints its address, a line for each map that
 can't be opened, and `ready`; and it ends with its standard input, and so with whoever began it, however that ends.
+MMPKG_MAPS, as PORT/TOKEN, has it come again where it was, for the page that knows it there.
 
     GET /TOKEN/maps?system=N
     GET /TOKEN/parts/MAP/SYSTEM/WEST/NORTH/PIXEL/COLUMN/ROW
@@ -277,14 +278,14 @@ class Server(http.server.ThreadingHTTPServer):
 
     daemon_threads = True
 
-    def __init__(self, paths, origin, port=0, open_map=None, bring=None):
+    def __init__(self, paths, origin, port=0, open_map=None, bring=None, token=None):
         if open_map is None:
             import behind
 
             open_map = behind.map_of
         self.bring = bring or brought_by_proj
         super().__init__(("127.0.0.1", port), Answers)
-        self.origin, self.token = origin, secrets.token_urlsafe(24)
+        self.origin, self.token = origin, token or secrets.token_urlsafe(24)
         self.maps = Maps(paths, open_map)
         self.address = f"http://127.0.0.1:{self.server_port}/{self.token}/"
 
@@ -294,7 +295,8 @@ class Server(http.server.ThreadingHTTPServer):
 
 def main():
     origin, *paths = sys.argv[1:]
-    server = Server(paths, origin)
+    port, _, token = os.environ.pop("MMPKG_MAPS", "").partition("/")
+    server = Server(paths, origin, int(port or 0), token=token)
     threading.Thread(target=server.serve_forever, daemon=True).start()
     for line in (server.address, *server.maps.unopened(), "ready"):
         print(" ".join(line.split()), flush=True)

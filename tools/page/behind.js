@@ -1,8 +1,8 @@
 // Maps that lie behind the work, drawn by the program that crew.py starts beside the desk. They are no part of the
 // package: where that program doesn't answer the list of maps says so, and nothing else waits for it.
 
-const NO_MAPS = phrase("The maps don't answer: what lies behind the work is missing until the package is opened " +
-  "again.");
+const NO_MAPS = phrase("The maps don't answer: what lies behind the work is missing until they do, or the package is " +
+  "opened again.");
 const LOOKS_OF_MAPS = `mmpkg maps ${ROOT}`;
 const SHAPES_PAUSE = 150;  // milliseconds behind a move until shapes are asked for
 // What the address tells beside the page: the package's file, and where its maps are drawn.

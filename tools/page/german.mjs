@@ -254,8 +254,8 @@ export const GERMAN = {
     "Ein anderes Programm belegt den Port dieses Pakets: Nichts, was es meldet, gilt. Es beenden und das Paket " +
       "noch einmal öffnen; was noch nicht im Paket ist, behält dieser Browser.",
   // behind.js
-  "The maps don't answer: what lies behind the work is missing until the package is opened again.":
-    "Die Karten antworten nicht: Was hinter der Arbeit liegt, fehlt, bis das Paket wieder geöffnet wird.",
+  "The maps don't answer: what lies behind the work is missing until they do, or the package is opened again.":
+    "Die Karten antworten nicht: Was hinter der Arbeit liegt, fehlt, bis sie es tun oder das Paket neu geöffnet wird.",
   "No map lies behind one of system {0}: EPSG has no such system.":
     "Hinter einer Karte im System {0} liegt keine andere: EPSG kennt dieses System nicht.",
   // behind.mjs

@@ -8,7 +8,7 @@ cd "$(dirname "$0")/.." || exit 2
 room=$(mktemp -d)
 trap 'rm -rf "$room"' EXIT
 chmod 777 "$room"
-cp -r cases scripts/outside/cases.py scripts/outside/make_profile_1.py "$room"
+cp -r cases scripts/outside/program/cases.py scripts/outside/program/make_profile_1.py "$room"
 python=/usr/bin/python3
 [ -x "$python" ] || python=$(command -v python3)
 as=()

@@ -97,39 +97,39 @@ want qemu-system-x86_64:qemu-system-x86 busybox:busybox-static /usr/sbin/mkfs.vf
 want node:nodejs eslint:eslint tsc:node-typescript /usr/lib/python3/dist-packages/piexif:python3-piexif
 begin 'the example' example
 tell
-begin 'a power cut' scripts/outside/power_cut.sh
-begin 'the documents' scripts/outside/check_docs.py "$MMPKG"
-begin 'the tables of its file' scripts/outside/compare_schema.sh "$folder/example.mmpkg"
-begin 'the page' scripts/outside/page_curl.sh
-begin 'the desk' scripts/outside/desk.sh
-begin 'calls for files' scripts/outside/file_calls_check.py
-begin 'what a build leaves' scripts/outside/build_check.py
-begin 'the linters' scripts/outside/lint.sh
-begin 'the clock' scripts/outside/clock.sh
-begin 'a terminal' scripts/outside/terminal.py "$MMPKG"
-begin 'refused growths of memory' scripts/outside/refuse_memory.py ${WHOLE:+--whole} "$MMPKG"
+begin 'a power cut' scripts/outside/program/power_cut.sh
+begin 'the documents' scripts/outside/tree/check_docs.py "$MMPKG"
+begin 'the tables of its file' scripts/outside/program/compare_schema.sh "$folder/example.mmpkg"
+begin 'the page' scripts/outside/desk/page_curl.sh
+begin 'the desk' scripts/outside/desk/desk.sh
+begin 'calls for files' scripts/outside/tree/file_calls_check.py
+begin 'what a build leaves' scripts/outside/tree/build_check.py
+begin 'the linters' scripts/outside/tree/lint.sh
+begin 'the clock' scripts/outside/program/clock.sh
+begin 'a terminal' scripts/outside/program/terminal.py "$MMPKG"
+begin 'refused growths of memory' scripts/outside/program/refuse_memory.py ${WHOLE:+--whole} "$MMPKG"
 begin 'random lists' scripts/model/random_lists.py
-begin 'the border to the standard' scripts/outside/border.sh
-begin 'maps by one command' scripts/outside/fill.sh
-begin 'maps beside a package' scripts/outside/maps_check.py
-begin 'what lies on the way in' scripts/outside/way_in_test.py
-begin 'what turns one package into another' scripts/outside/kit_between_check.py
-begin 'out and home' scripts/outside/home_check.py
-begin 'kills of out and home' scripts/outside/home_kills_check.py
-begin 'what a homecoming does' scripts/outside/homecoming_test.py
-begin 'weeks of an office' scripts/outside/weeks_check.py
-begin 'the viewer' scripts/outside/viewer.sh
-begin 'the viewer in Firefox' scripts/outside/viewer.sh "$MMPKG" firefox-esr
-begin "the core of the crew's page" scripts/outside/page_core.sh
-begin 'the page of a crew' scripts/outside/crew_page.sh
-begin 'the page of a crew in Firefox' scripts/outside/crew_page.sh "$MMPKG" firefox-esr
-begin "days of a crew's page" scripts/outside/page_days.sh "$MMPKG" chromium --seconds 120
-begin "days of a crew's page in Firefox" scripts/outside/page_days.sh "$MMPKG" firefox-esr --seconds 120
-begin "the crew's command" scripts/outside/crew_check.py
-begin 'the day of a crew at the page' scripts/outside/crew_day.sh
-begin 'GDAL and QGIS live' scripts/outside/wmts.sh
-begin 'the day of a crew' scripts/outside/field_day.sh
-begin 'the Debian package' scripts/outside/deb_check.sh
+begin 'the border to the standard' scripts/outside/border/border.sh
+begin 'maps by one command' scripts/outside/border/fill.sh
+begin 'maps beside a package' scripts/outside/border/maps_check.py
+begin 'what lies on the way in' scripts/outside/border/way_in_test.py
+begin 'what turns one package into another' scripts/outside/home/kit_between_check.py
+begin 'out and home' scripts/outside/home/home_check.py
+begin 'kills of out and home' scripts/outside/home/home_kills_check.py
+begin 'what a homecoming does' scripts/outside/home/homecoming_test.py
+begin 'weeks of an office' scripts/outside/home/weeks_check.py
+begin 'the viewer' scripts/outside/viewer/viewer.sh
+begin 'the viewer in Firefox' scripts/outside/viewer/viewer.sh "$MMPKG" firefox-esr
+begin "the core of the crew's page" scripts/outside/page/page_core.sh
+begin 'the page of a crew' scripts/outside/crew/crew_page.sh
+begin 'the page of a crew in Firefox' scripts/outside/crew/crew_page.sh "$MMPKG" firefox-esr
+begin "days of a crew's page" scripts/outside/days/page_days.sh "$MMPKG" chromium --seconds 120
+begin "days of a crew's page in Firefox" scripts/outside/days/page_days.sh "$MMPKG" firefox-esr --seconds 120
+begin "the crew's command" scripts/outside/crew/crew_check.py
+begin 'the day of a crew at the page' scripts/outside/days/crew_day.sh
+begin 'GDAL and QGIS live' scripts/outside/border/wmts.sh
+begin 'the day of a crew' scripts/outside/days/field_day.sh
+begin 'the Debian package' scripts/outside/program/deb_check.sh
 tell
 echo "$passed passed, $failed failed"
 [ "$failed" = 0 ] && [ "$passed" -gt 0 ]

@@ -11,7 +11,7 @@ scripts/fmt.sh "$since"
 for crate in crates/mm_test_*/; do
     (cd "$crate" && rt try --test)
 done
-[ ! -x out/mmpkg ] || scripts/outside/check_docs.py "$PWD/out/mmpkg"
+[ ! -x out/mmpkg ] || scripts/outside/tree/check_docs.py "$PWD/out/mmpkg"
 mapfile -t touched < <(scripts/touched.sh "$since")
 [ "${#touched[@]}" = 0 ] || scripts/prove.py "${touched[@]}"
 edited=()

@@ -25,7 +25,7 @@ import tempfile
 import time
 
 TOP = pathlib.Path(__file__).resolve().parents[2]
-sys.path[:0] = [str(TOP / "tools"), str(TOP / "scripts" / "outside")]
+sys.path[:0] = [str(TOP / "tools"), str(TOP / "scripts" / "outside" / "lib")]
 import devtools  # noqa: E402
 import land  # noqa: E402
 import note_words  # noqa: E402

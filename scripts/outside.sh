@@ -9,15 +9,13 @@
 #
 #     scripts/outside.sh [PROGRAM]
 #
-# PROGRAM is the built program: without it out/mmpkg, or else the one that the gate left in crates/mm_cli/out. With WHOLE in the
-# environment each growth of memory is refused, else as many as three minutes allow.
+# PROGRAM is the built program: without it the environment's MMPKG, or out/mmpkg, or else the one that the gate left in
+# crates/mm_cli/out. With WHOLE in the environment each growth of memory is refused, else as many as three minutes allow.
 set -u -o pipefail
 
-cd "$(dirname "$0")/.." || exit 2
-program=${1:-out/mmpkg}
-[ -x "$program" ] || program=crates/mm_cli/out/mm_cli
-export MMPKG
-MMPKG=$(realpath "$program")
+# shellcheck source=scripts/outside/lib/program.sh
+source "$(dirname "$0")/outside/lib/program.sh" "${1:-}"
+cd "$top" || exit 2
 folder=$(mktemp -d)
 trap 'rm -rf "$folder"' EXIT
 passed=0
@@ -89,28 +87,31 @@ example() {
     diff examples/expected.txt "$folder/example.txt" && echo "each line as in examples/expected.txt"
 }
 
-want sqlite3:sqlite3 curl:curl xxd:xxd cc:gcc python3:python3
+want sqlite3:sqlite3 curl:curl xxd:xxd cc:gcc /usr/bin/python3:python3
 # Peers: what needs one that can't be had is not tried.
-want gdalinfo:gdal-bin gdal2tiles.py:python3-gdal /usr/lib/python3/dist-packages/osgeo:python3-gdal
-want chromium:chromium firefox-esr:firefox-esr /usr/share/javascript/leaflet/leaflet.min.js:libjs-leaflet lintian:lintian debootstrap:debootstrap
-want qemu-system-x86_64:qemu-system-x86 busybox:busybox-static /usr/sbin/mkfs.vfat:dosfstools mcopy:mtools cpio:cpio shellcheck:shellcheck pyflakes3:pyflakes3 desktop-file-validate:desktop-file-utils
-want node:nodejs eslint:eslint tsc:node-typescript /usr/lib/python3/dist-packages/piexif:python3-piexif
+modules=/usr/lib/python3/dist-packages
+want gdalinfo:gdal-bin gdal2tiles.py:python3-gdal "$modules/osgeo:python3-gdal"
+want "$modules/PIL:python3-pil" "$modules/piexif:python3-piexif"
+want chromium:chromium firefox-esr:firefox-esr /usr/share/javascript/leaflet/leaflet.min.js:libjs-leaflet
+want lintian:lintian debootstrap:debootstrap desktop-file-validate:desktop-file-utils
+want qemu-system-x86_64:qemu-system-x86 busybox:busybox-static /usr/sbin/mkfs.vfat:dosfstools mcopy:mtools cpio:cpio
+want shellcheck:shellcheck pyflakes3:pyflakes3 node:nodejs eslint:eslint tsc:node-typescript
 begin 'the example' example
 tell
-begin 'a power cut' scripts/outside/program/power_cut.sh
-begin 'the documents' scripts/outside/tree/check_docs.py "$MMPKG"
+begin 'a power cut' scripts/outside/program/power_cut_check.py
+begin 'the documents' scripts/outside/tree/check_docs.py
 begin 'the tables of its file' scripts/outside/program/compare_schema.sh "$folder/example.mmpkg"
 begin 'the page' scripts/outside/desk/page_curl.sh
-begin 'the desk' scripts/outside/desk/desk.sh
+begin 'the desk' scripts/outside/desk/desk_check.py
 begin 'calls for files' scripts/outside/tree/file_calls_check.py
 begin 'what a build leaves' scripts/outside/tree/build_check.py
 begin 'the linters' scripts/outside/tree/lint.sh
 begin 'the clock' scripts/outside/program/clock.sh
-begin 'a terminal' scripts/outside/program/terminal.py "$MMPKG"
-begin 'refused growths of memory' scripts/outside/program/refuse_memory.py ${WHOLE:+--whole} "$MMPKG"
+begin 'a terminal' scripts/outside/program/terminal.py
+begin 'refused growths of memory' scripts/outside/program/refuse_memory.py ${WHOLE:+--whole}
 begin 'random lists' scripts/model/random_lists.py
-begin 'the border to the standard' scripts/outside/border/border.sh
-begin 'maps by one command' scripts/outside/border/fill.sh
+begin 'the border to the standard' scripts/outside/border/border_check.py
+begin 'maps by one command' scripts/outside/border/fill_check.py
 begin 'maps beside a package' scripts/outside/border/maps_check.py
 begin 'what lies on the way in' scripts/outside/border/way_in_test.py
 begin 'what turns one package into another' scripts/outside/home/kit_between_check.py
@@ -118,17 +119,20 @@ begin 'out and home' scripts/outside/home/home_check.py
 begin 'kills of out and home' scripts/outside/home/home_kills_check.py
 begin 'what a homecoming does' scripts/outside/home/homecoming_test.py
 begin 'weeks of an office' scripts/outside/home/weeks_check.py
-begin 'the viewer' scripts/outside/viewer/viewer.sh
-begin 'the viewer in Firefox' scripts/outside/viewer/viewer.sh "$MMPKG" firefox-esr
+begin 'nine tiles in a browser' scripts/outside/viewer/page_map.py
+begin 'the viewer' scripts/outside/viewer/viewer_check.py
+begin 'the viewer in Firefox' scripts/outside/viewer/viewer_check.py --browser firefox-esr
 begin "the core of the crew's page" scripts/outside/page/page_core.sh
-begin 'the page of a crew' scripts/outside/crew/crew_page.sh
-begin 'the page of a crew in Firefox' scripts/outside/crew/crew_page.sh "$MMPKG" firefox-esr
-begin "days of a crew's page" scripts/outside/days/page_days.sh "$MMPKG" chromium --seconds 120
-begin "days of a crew's page in Firefox" scripts/outside/days/page_days.sh "$MMPKG" firefox-esr --seconds 120
+begin 'the page of a crew' scripts/outside/crew/crew_page_check.py
+begin 'the page of a crew in Firefox' scripts/outside/crew/crew_page_check.py --browser firefox-esr
+begin 'what drives the browsers' scripts/outside/lib/browsers_check.py
+begin 'what a crew was told' scripts/outside/days/page_told_check.py
+begin "days of a crew's page" scripts/outside/days/page_days.py --seconds 120
+begin "days of a crew's page in Firefox" scripts/outside/days/page_days.py --browser firefox-esr --seconds 120
 begin "the crew's command" scripts/outside/crew/crew_check.py
-begin 'the day of a crew at the page' scripts/outside/days/crew_day.sh
-begin 'GDAL and QGIS live' scripts/outside/border/wmts.sh
-begin 'the day of a crew' scripts/outside/days/field_day.sh
+begin 'the day of a crew at the page' scripts/outside/days/crew_day_check.py
+begin 'GDAL and QGIS live' scripts/outside/border/wmts_check.py
+begin 'the day of a crew' scripts/outside/days/field_day_check.py
 begin 'the Debian package' scripts/outside/program/deb_check.sh
 tell
 echo "$passed passed, $failed failed"

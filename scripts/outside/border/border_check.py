@@ -1,18 +1,18 @@
-#!/usr/bin/env python3
-"""Compares what crosses the border with GDAL's view of it, and packages with what comes back. Called by
-scripts/outside/border/border.sh.
+#!/usr/bin/python3
+"""Compares what goes from the standard into a package and out again with GDAL's view of it (docs/BORDER.md), and
+packages with what comes back.
 
-    MMPKG=out/mmpkg scripts/outside/border/border_check.py [--python PYTHON] [WORD ..]
+    apt-get install gdal-bin python3-gdal
+    scripts/outside/border/border_check.py [PROGRAM] [WORD ..]
 
-PYTHON is an interpreter with GDAL's modules (Debian's python3-gdal is for /usr/bin/python3); WORD picks the checks
-whose names have it. The last line is 'N passed, M failed'; the exit status is 1 where one failed.
+WORD picks the checks whose names have it. The last line is 'N passed, M failed'. Exit status: 0 all passed, 1 something
+failed, 2 the program isn't there, 77 GDAL isn't there.
 
 Two packages are equal where 'mmpkg list' tells the same tables at the same moments, and all tables have the same rows.
 Editions, their pieces and the ids of relations are no part of it, and a definition of a system that is no WKT counts as
 'undefined'.
 """
 
-import argparse
 import contextlib
 import csv
 import hashlib
@@ -26,11 +26,12 @@ import shutil
 import sqlite3
 import subprocess
 import sys
-import tempfile
 
 sys.path.insert(0, str(pathlib.Path(__file__).resolve().parents[1] / "lib"))
-from checks import PROGRAM, TOP, content_of, end, expect, mmpkg, run, run_checks  # noqa: E402
-import page_map  # noqa: E402
+from checks import (  # noqa: E402
+    MODULES, PROGRAM, TOP, content_of, end, expect, in_a_folder, mmpkg, new_package, run, run_checks, want, words_given,
+)  # fmt: skip
+import images  # noqa: E402
 import import_standard  # noqa: E402
 import points  # noqa: E402
 
@@ -55,16 +56,16 @@ for name in opened.GetRelationshipNames() or []:
     it = opened.GetRelationship(name)
     print(it.GetLeftTableName(), it.GetRightTableName(), it.GetMappingTableName(), it.GetRelatedTableType())
 """
-python_with_gdal = "/usr/bin/python3"
+# What GDAL is looked by.
+GDAL = (
+    *(f"{it}:gdal-bin" for it in ("gdalinfo", "ogrinfo", "gdal_translate", "gdaldem", "gdallocationinfo")),
+    *(f"{it}:python3-gdal" for it in ("gdal2tiles.py", f"{MODULES}/osgeo/gdal_array.py")),
+    f"{MODULES}/osgeo_utils/samples/validate_gpkg.py:python3-gdal",
+)
 
 
 def tool(name, *words, status=0):
     return run(TOOLS / name, *words, status=status)
-
-
-def new_package(file, records, status=0):
-    mmpkg("init", file)
-    mmpkg("run", file, "--at", "0", given=records.encode(), status=status)
 
 
 def listing(file):
@@ -139,7 +140,7 @@ def export(file, out, *words):
 
 def validate(out):
     """GDAL's validator finds no error, its extra checks included."""
-    found, _ = run(python_with_gdal, "-m", "osgeo_utils.samples.validate_gpkg", "-k", "--extra", out)
+    found, _ = run(sys.executable, "-m", "osgeo_utils.samples.validate_gpkg", "-k", "--extra", out)
     expect(found, "", "validate_gpkg.py")
     print(f"    validate_gpkg.py -k --extra {out.name}: 0 errors")
 
@@ -176,7 +177,7 @@ def expect_round_trip(file, folder, *kit, valid=True, moment=0):
 
 def nine_tiles():
     """Nine coloured tiles with a spot, a photo and their relation."""
-    png = page_map.png_of((1, 2, 3))
+    png = images.tile((1, 2, 3))
     pieces = [
         Piece(["row", "spots", 7, "Well", "by the road, north", 3]),
         media_piece("photos", 1, "image/png", png),
@@ -187,7 +188,7 @@ def nine_tiles():
         "table,photos,media,Photos\n",
         "relation,spots_photos,spots,photos,media\n",
     ]
-    return page_map.records() + "".join(layout) + "".join(piece.command() for piece in pieces)
+    return images.nine_tiles() + "".join(layout) + "".join(piece.command() for piece in pieces)
 
 
 def check_worked_example(folder):
@@ -223,9 +224,9 @@ def check_nine_tiles_by_gdal(folder):
     ):
         assert line in info, f"gdalinfo doesn't tell {line}"
     run("gdal_translate", "-q", "-of", "PNG", "-b", "1", "-b", "2", "-b", "3", out, folder / "all.png")
-    rows = page_map.read_png((folder / "all.png").read_bytes())
-    found = [rows[number // 3 * page_map.SIDE + 32][number % 3 * page_map.SIDE + 32] for number in range(9)]
-    expect(found, page_map.COLOURS, "colours of gdal_translate")
+    rows = images.pixels_of((folder / "all.png").read_bytes())
+    found = [rows[number // 3 * images.SIDE + 32][number % 3 * images.SIDE + 32] for number in range(9)]
+    expect(found, images.COLOURS, "colours of gdal_translate")
     layers, told = run("ogrinfo", "-al", out)
     expect(told, "", "what ogrinfo tells")
     for line in (
@@ -237,7 +238,7 @@ def check_nine_tiles_by_gdal(folder):
         "content_type (String) = image/png",
     ):
         assert line in layers, f"ogrinfo doesn't tell {line}"
-    expect(run(python_with_gdal, "-c", RELATIONSHIPS, out)[0], "spots photos spots_photos media\n", "relations by GDAL")
+    expect(run(sys.executable, "-c", RELATIONSHIPS, out)[0], "spots photos spots_photos media\n", "relations by GDAL")
 
 
 def check_round_trip_of_the_examples(folder):
@@ -287,7 +288,7 @@ def random_pyramid(source, name, system):
                     zoom + level,
                     source.randrange(wide * count),
                     source.randrange(high * count),
-                    page_map.png_of(colour),
+                    images.tile(colour),
                 ).command()
             )
     return lines
@@ -646,7 +647,7 @@ def check_stopped_by_hand(folder):
     new_package(folder / "a.mmpkg", nine_tiles())
     export(folder / "a.mmpkg", folder / "in.gpkg")
     (folder / "tiles" / "0" / "0").mkdir(parents=True)
-    (folder / "tiles" / "0" / "0" / "0.png").write_bytes(page_map.png_of((1, 2, 3)))
+    (folder / "tiles" / "0" / "0" / "0.png").write_bytes(images.tile((1, 2, 3)))
     files = sorted(folder.rglob("*"))
     stop = "os.kill(os.getpid(), signal.SIGINT)"
     for name, patch, words in (
@@ -1090,7 +1091,7 @@ def imported(*words, status=0):
 
 def check_odd_files(folder):
     """Files of many kinds, as GDAL makes them and odd ones, end in words; what of them is whole comes in."""
-    run(python_with_gdal, TOP / "scripts" / "outside" / "border" / "odd_files.py", folder)
+    run(sys.executable, TOP / "scripts" / "outside" / "border" / "odd_files.py", folder)
     files = sorted(it for it in folder.iterdir() if it.suffix != ".xml")
     expect(set(ODD) <= {it.name for it in files}, True, "whether all files are there")
     for file in files:
@@ -1116,7 +1117,7 @@ def check_odd_files(folder):
 def check_columns_go_in_and_out(folder):
     """With --columns a layer comes in with all its columns, by its own key, and goes out with them, letter by
     letter."""
-    run(python_with_gdal, TOP / "scripts" / "outside" / "border" / "odd_files.py", folder)
+    run(sys.executable, TOP / "scripts" / "outside" / "border" / "odd_files.py", folder)
     with contextlib.closing(sqlite3.connect(folder / "stones.gpkg")) as opened:
         for (name,) in opened.execute(
             "SELECT name FROM sqlite_master WHERE type = 'trigger' AND tbl_name = 'stones'"
@@ -1218,7 +1219,7 @@ def check_texts_of_devices(folder):
 
 def check_photos_as_files(folder):
     """Photos go out as files that are named by their rows; nothing is overwritten."""
-    png = page_map.png_of((1, 2, 3))
+    png = images.tile((1, 2, 3))
     lines = [
         ["media", "photos", number, content_type, data.hex()]
         for number, content_type, data in (
@@ -1380,7 +1381,7 @@ def check_points_go_out_and_in(folder):
                   "Far": (999999999.999999, -999999999.999999, '"x"\nüß')}, "points by GDAL")  # fmt: skip
     assert "ETRS89 / UTM zone 32N" in run("ogrinfo", "-so", folder / "out.gpkg", "spots")[0], "the layer's system"
     expect(
-        run(python_with_gdal, "-c", RELATIONSHIPS, folder / "out.gpkg")[0],
+        run(sys.executable, "-c", RELATIONSHIPS, folder / "out.gpkg")[0],
         "spots photos spots_photos media\n",
         "relations by GDAL",
     )
@@ -1628,7 +1629,7 @@ def check_kit_of_gdal2tiles(folder):
     commands, told = tool("make_kit.py", folder / "tiles", "base", "first", folder / "kit", status=1)
     expect(told, "left out: about.txt: it is no tile Z/C/R.png, .jpg or .webp\n", "what is told")
     layout = (
-        page_map.records().splitlines()[0]
+        images.nine_tiles().splitlines()[0]
         + "\npyramid,base,Base,25832,0,0,{0},{0},two\nmatrix,base,2,3,3,256,256,{1},{1}\n"
     )
     new_package(folder / "a.mmpkg", layout.format(768 * UNITS_PER_METRE, UNITS_PER_METRE) + "edition,first\n")
@@ -1636,7 +1637,7 @@ def check_kit_of_gdal2tiles(folder):
     export(folder / "a.mmpkg", folder / "out.gpkg")
     validate(folder / "out.gpkg")
     found = [colour_at(folder / "out.gpkg", 128 + 256 * (number % 3), 640 - 256 * (number // 3)) for number in range(9)]
-    expect(found, page_map.COLOURS, "colours")
+    expect(found, images.COLOURS, "colours")
 
 
 def check_a_folder_of_links(folder):
@@ -1653,7 +1654,7 @@ def check_a_folder_of_links(folder):
 
 def check_kits_of_many_tiles(folder):
     """One tile more than a kit takes begins a second one, by both tools."""
-    tile = page_map.png_of((9, 9, 9))
+    tile = images.tile((9, 9, 9))
     (folder / "tiles" / "0" / "0").mkdir(parents=True)
     for row in range(KIT_PIECES + 1):
         (folder / "tiles" / "0" / "0" / f"{row}.png").write_bytes(tile)
@@ -1680,20 +1681,6 @@ def check_kits_of_many_tiles(folder):
     )
 
 
-def main():
-    global python_with_gdal
-    parser = argparse.ArgumentParser(description=__doc__, formatter_class=argparse.RawDescriptionHelpFormatter)
-    parser.add_argument("--python", default=python_with_gdal)
-    parser.add_argument("words", nargs="*", metavar="WORD")
-    given = parser.parse_args()
-    python_with_gdal = given.python
-
-    def call(check):
-        with tempfile.TemporaryDirectory() as folder:
-            check(pathlib.Path(folder))
-
-    end(*run_checks("border", globals(), given.words, call))
-
-
 if __name__ == "__main__":
-    main()
+    want("GDAL isn't there, and nothing was compared", *GDAL)
+    end(*run_checks("border", globals(), words_given(__doc__).words, in_a_folder))

@@ -1,14 +1,14 @@
-#!/usr/bin/env python3
-"""Fills packages with maps by tools/fill.py, and compares what GDAL finds in their export with the maps. Called by
-scripts/outside/border/fill.sh.
+#!/usr/bin/python3
+"""Fills packages with maps by tools/fill.py, and compares what GDAL finds in their export with the maps
+(docs/BORDER.md, 'A map by one command').
 
-    MMPKG=out/mmpkg scripts/outside/border/fill_check.py [--python PYTHON] [WORD ..]
+    apt-get install gdal-bin python3-gdal
+    scripts/outside/border/fill_check.py [PROGRAM] [WORD ..]
 
-PYTHON is an interpreter with GDAL's modules; WORD picks the checks whose names have it. The last line is 'N passed, M
-failed'; the exit status is 1 where one failed.
+WORD picks the checks whose names have it. The last line is 'N passed, M failed'. Exit status: 0 all passed, 1 something
+failed, 2 the program isn't there, 77 GDAL isn't there.
 """
 
-import argparse
 import collections
 import contextlib
 import os
@@ -18,14 +18,15 @@ import signal
 import sqlite3
 import subprocess
 import sys
-import tempfile
 import time
 
 sys.path.insert(0, str(pathlib.Path(__file__).resolve().parents[1] / "lib"))
-from checks import PROGRAM, TOP, end, expect, mmpkg, run, run_checks, wait_until_free  # noqa: E402
+from checks import (  # noqa: E402
+    PROGRAM, TOP, end, expect, in_a_folder, mmpkg, new_package, run, run_checks, wait_until_free, want, words_given,
+)  # fmt: skip
+import images  # noqa: E402
 import border_check  # noqa: E402
-import page_map  # noqa: E402
-from border_check import export, geotiff, new_package, standard_of, tool, validate  # noqa: E402
+from border_check import GDAL, export, geotiff, standard_of, tool, validate  # noqa: E402
 
 FILL = TOP / "tools" / "fill.py"
 # A photo by chance: smooth waves with noise, clear in its upper left part.
@@ -97,7 +98,7 @@ def colours_at(out, places):
 
 
 def expect_colours(out, places):
-    expect(colours_at(out, places), page_map.COLOURS, f"colours of {out}")
+    expect(colours_at(out, places), images.COLOURS, f"colours of {out}")
 
 
 def tiles_of(file, table):
@@ -206,13 +207,13 @@ def check_tiles_of_others(folder):
     for name in ("plane_tms", "base_map"):
         assert "Size is 700, 500" in run("gdalinfo", f"GPKG:{out}:{name}")[0], f"the size of {name} by GDAL"
     near = colours_at(f"GPKG:{out}:jpeg", middles(700, 500))
-    far = max(abs(one - other) for found, wanted in zip(near, page_map.COLOURS) for one, other in zip(found, wanted))
+    far = max(abs(one - other) for found, wanted in zip(near, images.COLOURS) for one, other in zip(found, wanted))
     assert far <= 6, f"the colours of JPEG are off by {far}: {near}"
 
 
 def check_a_photo_with_clear_ground(folder):
     """A photo is JPEG, and PNG where a part of the tile is clear; where all is clear there is no tile."""
-    run(border_check.python_with_gdal, "-c", PHOTO, folder / "photo.tif", 1024)
+    run(sys.executable, "-c", PHOTO, folder / "photo.tif", 1024)
     fill(folder / "a.mmpkg", folder / "photo.tif")
     kinds = {place: data[:4] for place, data in tiles_of(folder / "a.mmpkg", "photo").items()}
     finest = {place[1:]: kind for place, kind in kinds.items() if place[0] == 2}
@@ -250,7 +251,7 @@ def size_of_journal(file):
 
 def check_it_goes_on(folder):
     """Killed again and again, it comes to the same end by the same command, and each tile that stands is whole."""
-    run(border_check.python_with_gdal, "-c", PHOTO, folder / "photo.tif", 2048)
+    run(sys.executable, "-c", PHOTO, folder / "photo.tif", 2048)
     fill(folder / "a.mmpkg", folder / "photo.tif")
     kills = [killed(folder / "b.mmpkg", folder / "photo.tif", size) for size in KILLS]
     assert any(kills), "it was never killed on its way"
@@ -341,7 +342,7 @@ def check_what_is_no_map(folder):
         ("picture.tif", "--system 0", "--system: is no number"),
     ]
     told = run(
-        border_check.python_with_gdal,
+        sys.executable,
         "-B",
         "-c",
         REFUSED,
@@ -398,19 +399,6 @@ def check_the_other_tools_tell_it(folder):
     expect(told, "left out: 0/0/0.png: 0/0/0.jpg is the same tile\n", "what is told of two files of one tile")
 
 
-def main():
-    parser = argparse.ArgumentParser(description=__doc__, formatter_class=argparse.RawDescriptionHelpFormatter)
-    parser.add_argument("--python", default=border_check.python_with_gdal)
-    parser.add_argument("words", nargs="*", metavar="WORD")
-    given = parser.parse_args()
-    border_check.python_with_gdal = given.python
-
-    def call(check):
-        with tempfile.TemporaryDirectory() as folder:
-            check(pathlib.Path(folder))
-
-    end(*run_checks("fill", globals(), given.words, call))
-
-
 if __name__ == "__main__":
-    main()
+    want("GDAL isn't there, and no map was filled in", *GDAL)
+    end(*run_checks("fill", globals(), words_given(__doc__).words, in_a_folder))

@@ -1,7 +1,8 @@
-#!/usr/bin/env python3
+#!/usr/bin/python3
 """Serves maps by tools/maps.py and compares what comes with what gdalwarp and ogr2ogr make of them. It wants no
 program of mmpkg.
 
+    apt-get install gdal-bin python3-gdal
     scripts/outside/border/maps_check.py [WORD ..]
 
 The last line is 'N passed, M failed'; the exit status is 1 where one failed, and 77 where GDAL isn't there.
@@ -13,21 +14,17 @@ import json
 import math
 import os
 import pathlib
-import shutil
 import socket
 import subprocess
 import sys
-import tempfile
 import threading
 import time
 import urllib.parse
 import urllib.request
 
 sys.path.insert(0, str(pathlib.Path(__file__).resolve().parents[1] / "lib"))
-from checks import TOP, end, expect, run, run_checks  # noqa: E402
+from checks import MODULES, TOP, end, expect, in_a_folder, run, run_checks, serving, want, words_given  # noqa: E402
 from border_check import AREA, geotiff  # noqa: E402
-import gdal_python  # noqa: E402
-from border import Refused  # noqa: E402
 
 ORIGIN = "http://127.0.0.1:8090"
 PATIENCE = 60
@@ -38,14 +35,14 @@ class Served:
 
     def __init__(self, *paths, open_map=None):
         self.server = maps.Server(paths, ORIGIN, open_map=open_map)
-        threading.Thread(target=self.server.serve_forever, daemon=True).start()
+        self.served = serving(self.server)
 
     def __enter__(self):
+        self.served.__enter__()
         return self
 
-    def __exit__(self, *_):
-        self.server.shutdown()
-        self.server.server_close()
+    def __exit__(self, *why):
+        self.served.__exit__(*why)
 
     def ask(self, path, method="GET", token=None, body=None, **headers):
         connection = http.client.HTTPConnection("127.0.0.1", self.server.server_port, timeout=PATIENCE)
@@ -472,19 +469,9 @@ LARGE = """<VRTDataset rasterXSize="100000" rasterYSize="100000"><SRS>{system}</
 <SrcRect xOff="0" yOff="0" xSize="900" ySize="700"/><DstRect xOff="0" yOff="0" xSize="100000" ySize="100000"/></SimpleSource></VRTRasterBand></VRTDataset>"""
 
 
-def call(check):
-    with tempfile.TemporaryDirectory() as folder:
-        check(pathlib.Path(folder))
-
-
 if __name__ == "__main__":
-    try:
-        gdal_python.go_on_with_gdal()
-        if not all(map(shutil.which, ("gdalwarp", "gdal_translate", "gdaldem", "ogr2ogr"))):
-            raise Refused("apt-get install gdal-bin")
-    except Refused as refused:
-        print(f"GDAL isn't there, and no map was served: {refused}")
-        sys.exit(77)
+    tools = (f"{it}:gdal-bin" for it in ("gdalwarp", "gdal_translate", "gdaldem", "ogr2ogr"))
+    want("GDAL isn't there, and no map was served", *tools, f"{MODULES}/osgeo/gdal.py:python3-gdal", program=False)
     os.environ["GDAL_PAM_ENABLED"] = "NO"
     import numpy
     from osgeo import gdal
@@ -493,4 +480,4 @@ if __name__ == "__main__":
     import maps
     import pictures
 
-    end(*run_checks("maps", globals(), sys.argv[1:], call))
+    end(*run_checks("maps", globals(), words_given(__doc__).words, in_a_folder))

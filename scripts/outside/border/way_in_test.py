@@ -1,4 +1,4 @@
-#!/usr/bin/env python3
+#!/usr/bin/python3
 """Unit tests of what lies on the way into a package: zones, words of columns, told commands, the layout of a map,
 names of photos; and, where Debian's GDAL for Python is there, pixels as tiles. No program is run.
 
@@ -14,9 +14,9 @@ import sys
 import tempfile
 import unittest
 
-sys.path.insert(0, str(pathlib.Path(__file__).resolve().parents[3] / "tools"))
+sys.path.insert(0, str(pathlib.Path(__file__).resolve().parents[1] / "lib"))
+from checks import run_tests  # noqa: E402
 import fill_layout  # noqa: E402
-import gdal_python  # noqa: E402
 import note_words  # noqa: E402
 import photos  # noqa: E402
 import systems  # noqa: E402
@@ -26,9 +26,6 @@ import zones  # noqa: E402
 from border import Refused  # noqa: E402
 from fill_layout import Grid, Layout  # noqa: E402
 
-if __name__ == "__main__":
-    with contextlib.suppress(Refused):
-        gdal_python.go_on_with_gdal()
 HAS_GDAL = importlib.util.find_spec("osgeo") is not None
 
 
@@ -344,4 +341,4 @@ class Pixels(unittest.TestCase):
 
 
 if __name__ == "__main__":
-    unittest.main()
+    run_tests()

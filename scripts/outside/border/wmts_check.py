@@ -1,32 +1,29 @@
-#!/usr/bin/env python3
-"""Compares what GDAL and QGIS see of a served package by its WMTS description with the export.
+#!/usr/bin/python3
+"""Compares what GDAL and QGIS see of a served package by its WMTS description (docs/BORDER.md) with the export.
 
-Called by scripts/outside/border/wmts.sh.
-
-    MMPKG=out/mmpkg scripts/outside/border/wmts_check.py [WORD ..]
+    apt-get install gdal-bin python3-gdal libjs-leaflet python3-qgis
+    scripts/outside/border/wmts_check.py [PROGRAM] [WORD ..]
 
 A package of maps in three systems, two of which tell the northing first, gets its viewer with --wmts, is served and
-exported; each map has to have the same place, size, system and pixels by both ways. WORD picks the checks whose names
-have it. The last line is 'N passed, M failed'; the exit status is 1 where one failed.
+exported; each map has to have the same place, size, system and pixels by both ways. Where QGIS isn't there GDAL alone
+looks. WORD picks the checks whose names have it. The last line is 'N passed, M failed'. Exit status: 0 all passed, 1
+something failed, 2 the program isn't there, 77 GDAL or Leaflet isn't there.
 """
 
-import argparse
 import os
 import pathlib
-import socket
 import subprocess
 import sys
 import tempfile
 
 sys.path.insert(0, str(pathlib.Path(__file__).resolve().parents[1] / "lib"))
-from checks import TOP, end, expect, mmpkg, run, run_checks  # noqa: E402
+from checks import MODULES, TOP, end, expect, free_port, mmpkg, run, run_checks, want, words_given  # noqa: E402
+from browsers import LEAFLET  # noqa: E402
 from border_check import geotiff  # noqa: E402
 from viewer_package import served  # noqa: E402
 import wmts  # noqa: E402
 
 TOOLS = TOP / "tools"
-
-PYTHON = "/usr/bin/python3"
 
 # Name, system, lower left corner in metres, columns, rows, metres of a pixel, and the format of the tiles. The last two
 # are northing first.
@@ -114,9 +111,7 @@ class Scene:
         self.folder = folder
         self.file = folder / "a.mmpkg"
         self.out = folder / "out.gpkg"
-        with socket.socket() as it:
-            it.bind(("127.0.0.1", 0))
-            self.port = it.getsockname()[1]
+        self.port = free_port()
         self.description = f"http://127.0.0.1:{self.port}/media/viewer/5"
 
     def make(self):
@@ -192,7 +187,7 @@ def check_the_order_of_axes(_):
 def check_by_gdal(scene):
     """Each map has its place, size, system and pixels by GDAL."""
     names = [name for name, *_ in MAPS]
-    found, told = run("env", "-C", scene.folder, PYTHON, "-c", BY_GDAL, scene.description, scene.out, *names)
+    found, told = run("env", "-C", scene.folder, sys.executable, "-c", BY_GDAL, scene.description, scene.out, *names)
     for line, (name, system, _, columns, rows, *_) in zip(found.splitlines(), MAPS):
         print(f"    {line}")
         assert line.startswith(f"{name} {columns} {rows} [") and line.endswith(
@@ -203,11 +198,11 @@ def check_by_gdal(scene):
 
 def check_by_qgis(scene):
     """Each map is drawn by QGIS as its export is, where QGIS is there."""
-    if subprocess.run([PYTHON, "-c", "import qgis.core"], stderr=subprocess.DEVNULL, check=False).returncode:
+    if subprocess.run([sys.executable, "-c", "import qgis.core"], stderr=subprocess.DEVNULL, check=False).returncode:
         print("    QGIS isn't there, and didn't look (apt-get install python3-qgis)")
         return
     names = [f"{name}=image/{'jpeg' if form == 'JPEG' else 'png'}" for name, *_, form in MAPS]
-    found, _ = run("env", f"HOME={scene.folder}", PYTHON, "-c", BY_QGIS, scene.description, scene.out, *names)
+    found, _ = run("env", f"HOME={scene.folder}", sys.executable, "-c", BY_QGIS, scene.description, scene.out, *names)
     for line, (name, system, *_) in zip(found.splitlines(), MAPS):
         print(f"    {line}")
         assert line.startswith(f"{name} EPSG:{system} differing: 0 of "), line
@@ -215,9 +210,9 @@ def check_by_qgis(scene):
 
 
 def main():
-    parser = argparse.ArgumentParser(description=__doc__, formatter_class=argparse.RawDescriptionHelpFormatter)
-    parser.add_argument("words", nargs="*", metavar="WORD")
-    given = parser.parse_args()
+    given = words_given(__doc__)
+    tools = (f"{it}:gdal-bin" for it in ("gdal_translate", "gdaladdo", "gdaldem", "gdalinfo"))
+    want("nobody opened the page by WMTS", *tools, f"{MODULES}/osgeo/gdal.py:python3-gdal", LEAFLET)
     with tempfile.TemporaryDirectory() as name:
         scene = Scene(pathlib.Path(name))
         scene.told = scene.make()
@@ -227,4 +222,4 @@ def main():
 
 
 if __name__ == "__main__":
-    sys.exit(main())
+    main()

@@ -9,13 +9,13 @@ import json
 import threading
 import urllib.parse
 
-from checks import expect
+from checks import expect, new_package, serving
 import maps_drawn
 from crew_mine_checks import DEVICE, SWITCHES, in_the_middle
 from crew_out_checks import file_of
 from crew_page import Seat
 from crew_page_check import by_title, expect_quiet, photo_with_a_place, rows_of
-from viewer_package import PYRAMIDS, Pyramid, new_package, record, take_in
+from viewer_package import PYRAMIDS, Pyramid, record, take_in
 import beside
 import gdal_python
 
@@ -91,13 +91,11 @@ class StandIn:
 @contextlib.contextmanager
 def with_stand_in(scene, stand_in):
     seat = package_of(scene, BERN)
-    server = maps_drawn.Server([], f"http://127.0.0.1:{seat.port}", open_map=str, bring=stand_in)
-    threading.Thread(target=server.serve_forever, daemon=True).start()
-    try:
-        yield seat, begun(scene, seat, maps_drawn.told_behind(server)), server
-    finally:
-        stand_in.go.set()
-        server.end()
+    with serving(maps_drawn.Server([], f"http://127.0.0.1:{seat.port}", open_map=str, bring=stand_in)) as server:
+        try:
+            yield seat, begun(scene, seat, maps_drawn.told_behind(server)), server
+        finally:
+            stand_in.go.set()
 
 
 def listed_in(scene, crew):

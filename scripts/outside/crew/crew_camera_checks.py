@@ -8,10 +8,10 @@ is there.
 import base64
 import contextlib
 import datetime
+import importlib.util
 import json
 import sqlite3
 import struct
-import subprocess
 import time
 
 from checks import expect
@@ -20,14 +20,11 @@ from crew_mine_checks import SERIAL
 from crew_page import Crew
 from crew_page_check import CONTRAST, NAMES, by_title, expect_quiet, focus, rows_of, touch
 
-DEBIAN = "/usr/bin/python3"
-LOAD = """
-import json, sys
-import piexif
-plain = lambda it: it.decode("latin-1").rstrip("\\0") if isinstance(it, bytes) else it
-parts = piexif.load(sys.stdin.buffer.read())
-json.dump({name: {str(tag): plain(it) for tag, it in parts[name].items()} for name in ("0th", "Exif", "GPS")}, sys.stdout)
-"""
+if importlib.util.find_spec("piexif"):
+    import piexif
+else:
+    piexif = None
+
 OPEN = "sight?.stream && !byId('shutter').disabled"
 TAKEN = "form !== null && form.photos.length === {} && form.coming === 0 && byId('thumbnails').ariaBusy === 'false'"
 # Keeps each stream that the page is given.
@@ -78,10 +75,16 @@ def photos_of(seat, row):
 
 def exif_of(data):
     """What piexif reads of a JPEG, by part and tag; None where it isn't there."""
-    if subprocess.run([DEBIAN, "-c", "import piexif"], stderr=subprocess.DEVNULL, check=False).returncode:
+    if piexif is None:
         return None
-    done = subprocess.run([DEBIAN, "-c", LOAD], input=data, stdout=subprocess.PIPE, check=True)
-    return json.loads(done.stdout)
+    parts = piexif.load(data)
+    told = {name: {str(tag): plain(it) for tag, it in parts[name].items()} for name in ("0th", "Exif", "GPS")}
+    return json.loads(json.dumps(told))  # which has lists where piexif has pairs
+
+
+def plain(value):
+    """A value of Exif; a text without the zero at its end."""
+    return value.decode("latin-1").rstrip("\0") if isinstance(value, bytes) else value
 
 
 def degrees_of(values):

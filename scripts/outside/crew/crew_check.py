@@ -1,11 +1,12 @@
-#!/usr/bin/env python3
+#!/usr/bin/python3
 """Starts the crew's command, tools/crew.py, and looks at what it does and says: the page, the key, kills, Ctrl-C,
 what can't be opened.
 
-    MMPKG=out/mmpkg scripts/outside/crew/crew_check.py [WORD ..]
+    apt-get install curl libjs-leaflet
+    scripts/outside/crew/crew_check.py [PROGRAM] [WORD ..]
 
-WORD picks the checks whose names have it. The last line is 'N passed, M failed'; the exit status is 1 where one failed,
-and 77 where Leaflet isn't there.
+WORD picks the checks whose names have it. The last line is 'N passed, M failed'. Exit status: 0 all passed, 1 something
+failed, 2 the program isn't there, 77 curl or Leaflet isn't there.
 """
 
 import contextlib
@@ -28,8 +29,11 @@ import time
 import urllib.parse
 
 sys.path.insert(0, str(pathlib.Path(__file__).resolve().parents[1] / "lib"))
-from checks import PROGRAM, TOP, content_of, end, expect, mmpkg, run, run_checks, wait_until_free  # noqa: E402
-from crew_page import free_port, wait_until  # noqa: E402
+from checks import (  # noqa: E402
+    PROGRAM, TOP, content_of, end, expect, free_port, mmpkg, run, run_checks, wait_until_free, want, words_given,
+)  # fmt: skip
+from browsers import LEAFLET  # noqa: E402
+from crew_page import wait_until  # noqa: E402
 from terminal import read_until  # noqa: E402
 
 TOOL = TOP / "tools" / "crew.py"
@@ -37,7 +41,6 @@ GDAL = pathlib.Path("/usr/lib/python3/dist-packages/osgeo")
 # The crew's command where no interpreter has GDAL's modules.
 WITHOUT_GDAL = ("-c", f"import sys; sys.path.insert(0, {str(TOOL.parent)!r}); import beside, border, crew; "
                 "beside.python_with_gdal = lambda: None; border.run_tool(crew.main)")  # fmt: skip
-LEAFLET = pathlib.Path("/usr/share/javascript/leaflet/leaflet.min.js")
 AT_ONCE = 60
 ENDED = "The day is ended: {} alone holds all, and may be copied."
 BOTH = "{0}: the program didn't end well: keep {0} and {0}-wal together"
@@ -718,7 +721,5 @@ def check_without_a_name():
 
 
 if __name__ == "__main__":
-    if not LEAFLET.exists():
-        print("no crew's command was started (libjs-leaflet): apt-get install libjs-leaflet")
-        sys.exit(77)
-    end(*run_checks("crew", globals(), sys.argv[1:], lambda check: check()))
+    want("no crew's command was started", "curl:curl", LEAFLET)
+    end(*run_checks("crew", globals(), words_given(__doc__).words, lambda check: check()))

@@ -3,11 +3,12 @@
 import contextlib
 import re
 
-from checks import expect
+from checks import expect, new_package
 import browsers
 from crew_page import Crew, Seat
-from crew_page_check import BASE, UTM, by_title, expect_quiet, rows_of, send, touch
-from viewer_package import new_package, picture, record, take_in
+from crew_page_check import BASE, by_title, expect_quiet, rows_of, send, touch
+from images import picture
+from viewer_package import UTM, record, take_in
 
 STANDS = "outbox.waiting.length === 0 && byId('state').innerText === 'alles ist im Paket'"
 # What is to be seen or told to a screen reader: texts, what may be chosen, and what attributes say.

@@ -9,10 +9,9 @@ import json
 import re
 import sqlite3
 
-from checks import TOP, expect, run
+from checks import TOP, expect, new_package, run
 from crew_page import wait_until
 from crew_page_check import NAMES, by_title, expect_quiet, focus, rows_of
-from viewer_package import new_package
 
 # Stands for the device: what asks it, how often that began, what it tells to who asks, and what the page said above the
 # map.

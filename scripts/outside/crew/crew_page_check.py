@@ -1,16 +1,15 @@
-#!/usr/bin/env python3
-"""Works at the page of 'mmpkg desk' as a crew does, in a browser without a window. Called by
-scripts/outside/crew/crew_page.sh.
+#!/usr/bin/python3
+"""Works at the page of 'mmpkg desk' (docs/BORDER.md) as a crew does, in a browser without a window.
 
-    MMPKG=out/mmpkg scripts/outside/crew/crew_page_check.py [--browser chromium | firefox-esr] [--keep FOLDER] [WORD ..]
+    apt-get install chromium firefox-esr libjs-leaflet python3-pil python3-piexif
+    scripts/outside/crew/crew_page_check.py [PROGRAM] [--browser chromium | firefox-esr] [--keep FOLDER] [WORD ..]
 
 What a form saves has to stand in the package, wholly and once, by what the program and SQLite tell of it; also where
 the program or the answer is cut at each line, the browser ends, or another tab works too. --keep keeps screenshots in a
-folder; WORD picks the checks whose names have it. The last line is 'N passed, M failed'; the exit status is 1 where one
-failed.
+folder; WORD picks the checks whose names have it. The last line is 'N passed, M failed'. Exit status: 0 all passed, 1
+something failed, 2 the program isn't there, 77 the browser or Leaflet isn't there.
 """
 
-import argparse
 import base64
 import contextlib
 import http.server
@@ -27,42 +26,33 @@ import sys
 import tempfile
 import threading
 import time
-import zlib
 
 sys.path.insert(0, str(pathlib.Path(__file__).resolve().parents[1] / "lib"))
-from checks import end, expect, mmpkg, run_checks  # noqa: E402
+from checks import (
+    end,
+    expect,
+    free_port,
+    mmpkg,
+    new_package,
+    run_checks,
+    serving,
+    want,
+    words_given,
+)  # noqa: E402
 import browsers  # noqa: E402
 import maps_drawn  # noqa: E402
-import page_map  # noqa: E402
+import images  # noqa: E402
 from browser_page import WAIT_SECONDS  # noqa: E402
-from crew_page import KEY, MIDDLE, STANDS, Crew, Seat, free_port, wait_until  # noqa: E402
-from viewer_package import PYRAMIDS, Pyramid, picture, new_package, record, take_in  # noqa: E402
+from crew_page import KEY, MIDDLE, STANDS, Crew, Seat, wait_until  # noqa: E402
+from images import picture  # noqa: E402
+from viewer_package import base_map, content_of_crews, record, take_in  # noqa: E402
 
-UTM = (
-    'PROJCS["ETRS89 / UTM zone 32N",GEOGCS["ETRS89",DATUM["European_Terrestrial_Reference_System_1989",'
-    'SPHEROID["GRS 1980",6378137,298.257222101]],PRIMEM["Greenwich",0],UNIT["degree",0.0174532925199433]],'
-    'PROJECTION["Transverse_Mercator"],PARAMETER["latitude_of_origin",0],PARAMETER["central_meridian",9],'
-    'PARAMETER["scale_factor",0.9996],PARAMETER["false_easting",500000],PARAMETER["false_northing",0],'
-    'UNIT["metre",1]]'
-)
-BASE = Pyramid("base", "Base map", 25832, 500_000, 5_601_024, "two", PYRAMIDS[0].zooms[:3])
-PLAN = Pyramid("plan", "Plan", 7, 0, 128, "two", PYRAMIDS[0].zooms[2:3])
+BASE = base_map(3)
 STONES = 12
 
 
 def content():
-    """A map in UTM, one in a plan's system, rows at places, owners of rows, and photos."""
-    lines = [
-        ["srs", 25832, "ETRS89 / UTM zone 32N", "EPSG", 25832, UTM, ""],
-        ["srs", 7, "plan", "NONE", 7, "metres of a plan", ""],
-    ]
-    tables = [
-        ["table", "owners", "attributes", "Owners"],
-        ["table", "spots", "attributes", "Spots"],
-        ["table", "photos", "media", "Photos"],
-        ["relation", "spots_photos", "spots", "photos", "media"],
-        ["relation", "owners_spots", "owners", "spots", "simple_attributes"],
-    ]
+    """Rows at places, owners of rows, and photos."""
     places = {it: f"@25832:{500_000 + 70 * it}/{5_600_000 + 60 * it}" for it in range(1, STONES + 1)}
     rows = [["row", "spots", it, f"Stone {it}", f"{places[it]} from the books", it] for it in places]
     photo = [
@@ -71,7 +61,7 @@ def content():
         ["row", "owners", 1, "Ada", "", 0],
         ["map", "owners_spots", 1, 9],
     ]
-    return "".join([*map(record, lines), BASE.records(), PLAN.records(), *map(record, [*tables, *rows, *photo])])
+    return content_of_crews(BASE, *rows, *photo)
 
 
 class Scene:
@@ -1337,8 +1327,7 @@ def check_a_frame_of_another_site(scene):
         def log_message(self, *_):
             pass
 
-    with http.server.ThreadingHTTPServer(("127.0.0.1", free_port()), Quiet) as server:
-        threading.Thread(target=server.serve_forever, daemon=True).start()
+    with serving(http.server.ThreadingHTTPServer(("127.0.0.1", free_port()), Quiet)) as server:
         page = scene.browser.open(f"http://127.0.0.1:{server.server_address[1]}/index.html")
         scene.pages.append(page)
         page.wait("document.readyState === 'complete'")
@@ -1354,7 +1343,6 @@ def check_a_frame_of_another_site(scene):
         expect(page.value("document.getElementById('image').naturalWidth"), 0, "a photo in another page")
         page.value("document.getElementById('form').submit(); 0")
         time.sleep(1)
-        server.shutdown()
     assert shown.startswith(("chrome-error", seat.address)), shown
     expect(sorted(rows_of(seat)), list(range(1, STONES + 1)), "the rows")
 
@@ -1380,15 +1368,14 @@ class Stranger:
                 pass
 
         self.asked = set()
-        self.server = http.server.ThreadingHTTPServer(("127.0.0.1", port), Handler)
-        threading.Thread(target=self.server.serve_forever, daemon=True).start()
+        self.served = serving(http.server.ThreadingHTTPServer(("127.0.0.1", port), Handler))
 
     def __enter__(self):
+        self.served.__enter__()
         return self
 
-    def __exit__(self, *_):
-        self.server.shutdown()
-        self.server.server_close()
+    def __exit__(self, *why):
+        self.served.__exit__(*why)
 
 
 def check_a_stranger_at_the_port(scene):
@@ -1840,7 +1827,7 @@ def check_a_drawing_with_a_clear_ground(scene):
     """A drawing whose ground is clear has a white one as a photo: black words on it can be read."""
     _, crew = scene.begin()
     drawing = scene.folder / "drawing.png"
-    drawing.write_bytes(clear_picture(40, 30))
+    drawing.write_bytes(picture(40, 30, (0, 0, 0, 0)))
     crew.press("fresh")
     crew.fill(title="Sketch", photos=[drawing])
     pixel = """(async () => {
@@ -1852,14 +1839,6 @@ def check_a_drawing_with_a_clear_ground(scene):
     })()"""
     expect(crew.value(pixel), [255, 255, 255, 255], "a pixel of the ground")
     expect_quiet(crew)
-
-
-def clear_picture(wide, high):
-    """A PNG that is clear all over."""
-    head = struct.pack(">IIBBBBB", wide, high, 8, 6, 0, 0, 0)
-    rows = zlib.compress((b"\0" + bytes(4) * wide) * high)
-    chunks = page_map.chunk(b"IHDR", head) + page_map.chunk(b"IDAT", rows) + page_map.chunk(b"IEND", b"")
-    return b"\x89PNG\r\n\x1a\n" + chunks
 
 
 CONTRAST = """(() => {
@@ -2149,7 +2128,7 @@ def colour_at(crew, east, north):
     crew.value("new Promise(good => requestAnimationFrame(() => requestAnimationFrame(() => good(1))))")
     where = f"map.latLngToContainerPoint([{north}, {east}]), byId('map').getBoundingClientRect()"
     x, y = crew.value(f"((it, box) => [box.x + it.x, box.y + it.y])({where})")
-    return page_map.read_png(crew.page.screenshot())[int(y)][int(x)]
+    return images.pixels_of(crew.page.screenshot())[int(y)][int(x)]
 
 
 def listed(crew):
@@ -2464,14 +2443,9 @@ def touch(crew, element):
 
 
 def main():
-    parser = argparse.ArgumentParser(description=__doc__, formatter_class=argparse.RawDescriptionHelpFormatter)
-    parser.add_argument("--browser", default="chromium")
-    parser.add_argument("--keep", type=pathlib.Path)
-    parser.add_argument("words", nargs="*", metavar="WORD")
-    given = parser.parse_args()
-    if given.keep:
-        given.keep.mkdir(parents=True, exist_ok=True)
-    with tempfile.TemporaryDirectory() as name:
+    given = words_given(__doc__, browser=True)
+    want("no crew worked at the page", *browsers.needs(given.browser))
+    with tempfile.TemporaryDirectory() as name, browsers.held(given.browser):
         folder = pathlib.Path(name)
         with browsers.start(given.browser, folder / "profile") as browser:
             scene = Scene(folder, browser, given.browser, given.keep)

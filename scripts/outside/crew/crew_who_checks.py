@@ -7,9 +7,9 @@ import re
 import sqlite3
 import time
 
-from checks import TOP, expect, mmpkg, run
+from checks import TOP, expect, mmpkg, new_package, run
 from crew_page_check import by_title, content, expect_quiet, rows_of, send
-from viewer_package import new_package, record
+from viewer_package import record
 
 SIGNED = re.compile(r'^(.*) by=("[^"]*"|[^ ]*) at=([0-9]{4}-[0-9]{2}-[0-9]{2}T[0-9]{2}:[0-9]{2}:[0-9]{2}Z)$')
 SHOWN = "rows.found.map(it => it.title).sort().join()"

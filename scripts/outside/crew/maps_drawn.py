@@ -7,7 +7,8 @@ import socket
 import threading
 import urllib.parse
 
-from viewer_package import picture
+from checks import serving
+from images import picture
 import maps
 
 PATIENCE = 60
@@ -80,6 +81,9 @@ class Server(maps.Server):
     def end(self):
         self.shutdown()
         self.server_close()
+
+    def server_close(self):
+        super().server_close()
         for it in self.connections:
             with contextlib.suppress(OSError):
                 it.shutdown(socket.SHUT_RDWR)
@@ -100,15 +104,13 @@ def served(origin, **named):
             raise ValueError(named[name])
         return named[name]
 
-    server = Server(list(named), origin, open_map=opened)
-    threading.Thread(target=server.serve_forever, daemon=True).start()
-    try:
-        yield server
-    finally:
-        for it in named.values():
-            if isinstance(it, Ground):
-                it.go.set()
-        server.end()
+    with serving(Server(list(named), origin, open_map=opened)) as server:
+        try:
+            yield server
+        finally:
+            for it in named.values():
+                if isinstance(it, Ground):
+                    it.go.set()
 
 
 def told_behind(server, file="trip.mmpkg"):

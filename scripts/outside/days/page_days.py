@@ -1,17 +1,18 @@
-#!/usr/bin/env python3
+#!/usr/bin/python3
 """Random days of a crew at the page of 'mmpkg desk': forms, choices, photos, PDF, sound, names, two tabs, kills, an
 office.
 
-    MMPKG=out/mmpkg scripts/outside/days/page_days.py [--browser chromium | firefox-esr] [--seed N] [--days N] [--seconds N]
-                                                 [--day 'STEPS'] [--all]
+    apt-get install chromium firefox-esr libjs-leaflet python3-pil
+    scripts/outside/days/page_days.py [PROGRAM] [--browser chromium | firefox-esr] [--seed N] [--days N] [--seconds N]
+                                      [--day 'STEPS'] [--all]
 
 A day is a list of steps, made from the seed and the day's number. Beside it page_told.py keeps what the crew was told;
 behind each step, and in the end, nothing that was shown as standing may be missing or stand twice, nothing that was
 saved or typed may be gone, nobody's work overwritten unsaid, and the package is whole. Of a day that went wrong steps
 are dropped as long as it goes wrong still, and the shortest is printed, to be gone through again by --day. --days is
 how many (8), --seconds when no more are begun. Fixed days come first, and all of them; steps and fixed days that are
-known to go wrong are named, and tried with --all. The last line is 'N passed, M failed'; the exit status is 1 where one
-failed.
+known to go wrong are named, and tried with --all. The last line is 'N passed, M failed'. Exit status: 0 all passed, 1
+something failed, 2 the program isn't there, 77 the browser or Leaflet isn't there.
 """
 
 import argparse
@@ -23,7 +24,8 @@ import tempfile
 import time
 
 sys.path.insert(0, str(pathlib.Path(__file__).resolve().parents[1] / "lib"))
-from checks import end  # noqa: E402
+from checks import end, want  # noqa: E402
+import browsers  # noqa: E402
 from page_day import Day  # noqa: E402
 from page_world import STONES, World  # noqa: E402
 
@@ -143,10 +145,11 @@ def main():
     parser.add_argument("--day", metavar="STEPS")
     parser.add_argument("--all", action="store_true")
     given = parser.parse_args()
+    want("no day was gone through", *browsers.needs(given.browser))
     if not given.all and not given.day and (NOT_YET or NOT_YET_STEPS):
         print(f"not tried: {', '.join(NOT_YET)}; and days with the steps {', '.join(NOT_YET_STEPS)}", flush=True)
     began, found = time.monotonic(), []
-    with tempfile.TemporaryDirectory() as name:
+    with tempfile.TemporaryDirectory() as name, browsers.held(given.browser):
         world = World(pathlib.Path(name), given.browser)
         try:
             for title, steps in days_of(given):
@@ -159,4 +162,4 @@ def main():
 
 
 if __name__ == "__main__":
-    sys.exit(main())
+    main()

@@ -1,4 +1,4 @@
-#!/usr/bin/env python3
+#!/usr/bin/python3
 """What page_told.py says of days that are written down here, and what the strangers of stranger.py answer.
 
     scripts/outside/days/page_told_check.py [WORD ..]
@@ -12,7 +12,7 @@ import sys
 import time
 
 sys.path.insert(0, str(pathlib.Path(__file__).resolve().parents[1] / "lib"))
-from checks import end, expect, run_checks  # noqa: E402
+from checks import end, expect, run_checks, words_given  # noqa: E402
 from page_day import Day  # noqa: E402
 from page_days import STEPS, shortest, steps_of  # noqa: E402
 from page_told import Act, Row, Told  # noqa: E402
@@ -222,4 +222,4 @@ def check_a_stranger_that_leaves(_):
 
 
 if __name__ == "__main__":
-    end(*run_checks("what was told", globals(), sys.argv[1:], lambda check: check(None)))
+    end(*run_checks("what was told", globals(), words_given(__doc__).words, lambda check: check(None)))

@@ -11,28 +11,20 @@ import re
 import shutil
 import signal
 import sqlite3
-import struct
 import subprocess
 import threading
 import time
 
-from checks import expect, mmpkg
+from checks import expect, mmpkg, new_package
 import browsers
+import images
 from crew_page import IS_KEPT, KEY, STANDS, Seat, press_at_rest
 from page_told import Row, tag_of
 from stranger import Stranger
-from viewer_package import PYRAMIDS, Pyramid, new_package, picture, record, take_in
+from images import picture
+from viewer_package import base_map, content_of_crews, record, take_in
 
-UTM = (
-    'PROJCS["ETRS89 / UTM zone 32N",GEOGCS["ETRS89",DATUM["European_Terrestrial_Reference_System_1989",'
-    'SPHEROID["GRS 1980",6378137,298.257222101]],PRIMEM["Greenwich",0],UNIT["degree",0.0174532925199433]],'
-    'PROJECTION["Transverse_Mercator"],PARAMETER["latitude_of_origin",0],PARAMETER["central_meridian",9],'
-    'PARAMETER["scale_factor",0.9996],PARAMETER["false_easting",500000],PARAMETER["false_northing",0],'
-    'UNIT["metre",1]]'
-)
 SYSTEM = 25832
-BASE = Pyramid("base", "Base map", SYSTEM, 500_000, 5_601_024, "two", PYRAMIDS[0].zooms[:2])
-PLAN = Pyramid("plan", "Plan", 7, 0, 128, "two", PYRAMIDS[0].zooms[1:2])
 STONES = 6
 # What a row's field has to choose from, and a word of its note that tells which it is.
 KINDS = ("oak", "elm", "ash")
@@ -57,16 +49,8 @@ def stone(number):
 
 
 def content():
-    lines = [
-        ["srs", SYSTEM, "ETRS89 / UTM zone 32N", "EPSG", SYSTEM, UTM, ""],
-        ["srs", 7, "plan", "NONE", 7, "metres of a plan", ""],
-    ]
+    """Rows of the office's, one of them with an owner, and the tables of what rows were and of what to choose from."""
     tables = [
-        ["table", "owners", "attributes", "Owners"],
-        ["table", "spots", "attributes", "Spots"],
-        ["table", "photos", "media", "Photos"],
-        ["relation", "spots_photos", "spots", "photos", "media"],
-        ["relation", "owners_spots", "owners", "spots", "simple_attributes"],
         ["table", "history", "attributes", "History"],
         ["relation", "spots_history", "spots", "history", "simple_attributes"],
         ["table", "forms", "attributes", "Forms"],
@@ -74,20 +58,14 @@ def content():
     ]
     rows = [["row", "spots", it, stone(it).title, stone(it).note, it] for it in range(1, STONES + 1)]
     more = [["row", "owners", 1, "Ada", f"@{SYSTEM}:500800/5600500", 0], ["map", "owners_spots", 1, STONES]]
-    return "".join([*map(record, lines), BASE.records(), PLAN.records(), *map(record, [*tables, *rows, *more])])
+    return content_of_crews(base_map(2), *tables, *rows, *more)
 
 
 def size_of(data):
-    """The width and height of a picture: PNG, or JPEG by its first frame; of what is none its size alone."""
+    """The width and height of a picture, PNG or JPEG; of what is none its size alone."""
     if not data.startswith((b"\x89PNG", b"\xff\xd8\xff")):
         return 0, len(data)
-    if data.startswith(b"\x89PNG"):
-        return struct.unpack(">II", data[16:24])
-    at = 2
-    while not (data[at + 1] in range(0xC0, 0xD0) and data[at + 1] not in (0xC4, 0xC8, 0xCC)):
-        at += 2 + struct.unpack(">H", data[at + 2 : at + 4])[0]
-    high, wide = struct.unpack(">HH", data[at + 5 : at + 9])
-    return wide, high
+    return images.size_of(data)
 
 
 def told_row(title, note, amount, sizes):

@@ -1,11 +1,13 @@
-#!/usr/bin/env python3
-"""Asks the desk over sockets and by curl: the worked requests, large and cut bodies, clients that vanish, kills,
-keys (desk.sh calls it).
+#!/usr/bin/python3
+"""Asks the desk over sockets and by curl, which share no code with this repository: the worked requests, bodies that are
+large, cut or slow, clients that vanish, kills, keys.
 
-    desk_check.py [WORD ..]
+    apt-get install curl
+    scripts/outside/desk/desk_check.py [PROGRAM] [WORD ..]
 
 With words only the checks whose names have one of them. Wanted values are those of docs/FORMATS.md, by the model in
-scripts/model.
+scripts/model. The last line is 'N passed, M failed'. Exit status: 0 all passed, 1 something failed, 2 the program isn't
+there, 77 curl isn't there.
 """
 import contextlib
 import datetime
@@ -24,7 +26,7 @@ import threading
 import time
 
 sys.path.insert(0, str(pathlib.Path(__file__).resolve().parents[1] / "lib"))
-from checks import PROGRAM, end, expect, held_port, mmpkg, run, run_checks  # noqa: E402
+from checks import PROGRAM, end, expect, held_port, mmpkg, run, run_checks, want, words_given  # noqa: E402
 from package_desk import MOST_BODY_BYTES, Desk  # noqa: E402
 from package_model import Package  # noqa: E402
 from package_views import listing  # noqa: E402
@@ -651,4 +653,5 @@ def check_the_last_connection():
 
 
 if __name__ == "__main__":
-    end(*run_checks("desk", globals(), sys.argv[1:], lambda check: check()))
+    want("no desk was asked", "curl:curl")
+    end(*run_checks("desk", globals(), words_given(__doc__).words, lambda check: check()))

@@ -9,8 +9,9 @@
 set -eu -o pipefail
 
 port=${1:-18080}
-cd "$(dirname "$0")/../../.."
-program=${MMPKG:-$PWD/out/mmpkg}
+# shellcheck source=scripts/outside/lib/program.sh
+source "$(dirname "$0")/../lib/program.sh" ""
+program=$MMPKG
 folder=$(mktemp -d)
 trap 'kill "${server:-}" 2>/dev/null || true; rm -rf "$folder"' EXIT
 

@@ -1,7 +1,7 @@
-#!/usr/bin/env python3
+#!/usr/bin/python3
 """Hands copies out and takes them home by tools/hand_out.py and tools/come_home.py, also wrong ones.
 
-    MMPKG=out/mmpkg scripts/outside/home/home_check.py [WORD ..]
+    scripts/outside/home/home_check.py [PROGRAM] [WORD ..]
 
 WORD picks the checks whose names have it. The last line is 'N passed, M failed'; the exit status is 1 where one failed.
 """
@@ -17,7 +17,9 @@ import sys
 import tempfile
 
 sys.path.insert(0, str(pathlib.Path(__file__).resolve().parents[1] / "lib"))
-from checks import PROGRAM, TOP, content_of, end, expect, mmpkg, run, run_checks  # noqa: E402
+from checks import (  # noqa: E402
+    PROGRAM, TOP, content_of, end, expect, in_a_folder, mmpkg, run, run_checks, want, words_given,
+)  # fmt: skip
 
 TOOLS = TOP / "tools"
 OUT, HOME = TOOLS / "hand_out.py", TOOLS / "come_home.py"
@@ -544,13 +546,6 @@ def check_handing_out(folder):
     expect(files_of(folder), files, "files")
 
 
-def main():
-    def call(check):
-        with tempfile.TemporaryDirectory() as folder:
-            check(pathlib.Path(folder))
-
-    end(*run_checks("home", globals(), sys.argv[1:], call))
-
-
 if __name__ == "__main__":
-    main()
+    want("no copy was handed out")
+    end(*run_checks("home", globals(), words_given(__doc__).words, in_a_folder))

@@ -1,7 +1,7 @@
-#!/usr/bin/env python3
+#!/usr/bin/python3
 """Kills tools/hand_out.py and tools/come_home.py at each request and at each step on files, and does them again.
 
-    MMPKG=out/mmpkg scripts/outside/home/home_kills_check.py [WORD ..]
+    scripts/outside/home/home_kills_check.py [PROGRAM] [WORD ..]
 
 What is done again comes to the same end: no mark is used twice, nothing that was half written is taken for whole, and
 what a kill left goes away. WORD picks the checks whose names have it. The last line is 'N passed, M failed'; the exit
@@ -20,7 +20,9 @@ import tempfile
 import threading
 
 sys.path.insert(0, str(pathlib.Path(__file__).resolve().parents[1] / "lib"))
-from checks import PROGRAM, end, expect, is_held, mmpkg, run_checks, wait_until_free  # noqa: E402
+from checks import (  # noqa: E402
+    PROGRAM, end, expect, in_a_folder, is_held, mmpkg, run_checks, wait_until_free, want, words_given,
+)  # fmt: skip
 
 from home_check import (  # noqa: E402
     HOME, NORTH, OUT, SOUTH, come_home, command_behind, content, do, editions, expect_refused, files_of, hand_out,
@@ -498,13 +500,6 @@ def check_stopped_by_hand(folder):
     expect(content(office), content(copy), "what came home")
 
 
-def main():
-    def call(check):
-        with tempfile.TemporaryDirectory() as folder:
-            check(pathlib.Path(folder))
-
-    end(*run_checks("kills", globals(), sys.argv[1:], call))
-
-
 if __name__ == "__main__":
-    main()
+    want("no copy was handed out")
+    end(*run_checks("kills", globals(), words_given(__doc__).words, in_a_folder))

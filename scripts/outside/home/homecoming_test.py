@@ -1,4 +1,4 @@
-#!/usr/bin/env python3
+#!/usr/bin/python3
 """Unit tests of what a homecoming does, over states of packages, and of the files that an office keeps beside its own.
 
     scripts/outside/home/homecoming_test.py
@@ -15,7 +15,8 @@ import tempfile
 import unittest
 import unittest.mock
 
-sys.path.insert(0, str(pathlib.Path(__file__).resolve().parents[3] / "tools"))
+sys.path.insert(0, str(pathlib.Path(__file__).resolve().parents[1] / "lib"))
+from checks import run_tests  # noqa: E402
 import homecoming  # noqa: E402
 import keeping  # noqa: E402
 import lineage  # noqa: E402
@@ -409,4 +410,4 @@ class Folders(unittest.TestCase):
 
 
 if __name__ == "__main__":
-    unittest.main()
+    run_tests()

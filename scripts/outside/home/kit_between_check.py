@@ -1,8 +1,8 @@
-#!/usr/bin/env python3
+#!/usr/bin/python3
 """Compares what tools/kit_between.py writes with the rule that its help states, on random packages and on some by
 hand.
 
-    MMPKG=out/mmpkg scripts/outside/home/kit_between_check.py [--seed N] [--rounds N] [WORD ..]
+    scripts/outside/home/kit_between_check.py [PROGRAM] [--seed N] [--rounds N] [WORD ..]
 
 A round makes a package by random lists, changes two copies of it by more of them, takes what turns one into another to
 a copy, and what one changed onto the other. What then stands is compared row by row with what the rule gives, which
@@ -11,7 +11,6 @@ tool. WORD picks the checks whose names have it. The last line is 'N passed, M f
 failed.
 """
 
-import argparse
 import collections
 import contextlib
 import csv
@@ -22,10 +21,9 @@ import re
 import shutil
 import sqlite3
 import sys
-import tempfile
 
 sys.path.insert(0, str(pathlib.Path(__file__).resolve().parents[1] / "lib"))
-from checks import PROGRAM, TOP, content_of, end, expect, run, run_checks  # noqa: E402
+from checks import PROGRAM, TOP, content_of, end, expect, in_a_folder, run, run_checks, want, words_given  # noqa: E402
 from make_profile_1 import put_back  # noqa: E402
 from package_merge import by_the_rule, entries, package_of  # noqa: E402
 from package_model import Package  # noqa: E402
@@ -923,18 +921,10 @@ def check_output_that_fails(folder, _):
 
 
 def main():
-    parser = argparse.ArgumentParser(description=__doc__, formatter_class=argparse.RawDescriptionHelpFormatter)
-    parser.add_argument("--seed", type=int, default=DEFAULT_SEED)
-    parser.add_argument("--rounds", type=int, default=DEFAULT_ROUNDS)
-    parser.add_argument("words", nargs="*", metavar="WORD")
-    given = parser.parse_args()
+    given = words_given(__doc__, seed=DEFAULT_SEED, rounds=DEFAULT_ROUNDS)
+    want("nothing was turned into another")
     print(f"seed {given.seed}")
-
-    def call(check):
-        with tempfile.TemporaryDirectory() as folder:
-            return check(pathlib.Path(folder), given)
-
-    end(*run_checks("kit_between", globals(), given.words, call))
+    end(*run_checks("kit_between", globals(), given.words, lambda check: in_a_folder(check, given)))
 
 
 if __name__ == "__main__":

@@ -1,8 +1,8 @@
-#!/usr/bin/env python3
+#!/usr/bin/python3
 """Goes through random weeks of an office and its crews by tools/hand_out.py and tools/come_home.py, and compares
 each step with a model.
 
-    MMPKG=out/mmpkg scripts/outside/home/weeks_check.py [--seed N] [--weeks N] [--first N]
+    scripts/outside/home/weeks_check.py [PROGRAM] [--seed N] [--weeks N] [--first N]
 
 Two to four crews get copies, work by small numbers and by the page's, with photos and removals, come home, some again
 and again, get news, lose a journal; the office works on; tools are killed at any request and done again; copies are
@@ -12,7 +12,6 @@ unnamed, nothing stands twice, and nothing of others is touched. A week that wen
 The last line is 'N passed, M failed'; the exit status is 1 where one failed.
 """
 
-import argparse
 import collections
 import contextlib
 import csv
@@ -29,7 +28,9 @@ import tempfile
 import traceback
 
 sys.path.insert(0, str(pathlib.Path(__file__).resolve().parents[1] / "lib"))
-from checks import PROGRAM, content_of, end, expect, mmpkg, run, wait_until_free  # noqa: E402
+from checks import (  # noqa: E402
+    PROGRAM, content_of, end, expect, mmpkg, run, wait_until_free, want, words_given,
+)  # fmt: skip
 import come_home  # noqa: E402
 import hand_out  # noqa: E402
 import homecoming  # noqa: E402
@@ -494,12 +495,8 @@ def expect_entries(found, wanted, what):
 
 
 def main():
-    parser = argparse.ArgumentParser(description=__doc__, formatter_class=argparse.RawDescriptionHelpFormatter)
-    parser.add_argument("--seed", type=int, default=1)
-    parser.add_argument("--weeks", type=int, default=60)
-    parser.add_argument("--first", type=int, default=1)
-    given = parser.parse_args()
-    os.environ["MMPKG"] = PROGRAM
+    given = words_given(__doc__, seed=1, weeks=60, first=1)
+    want("no week was gone through")
     print(f"seed {given.seed}")
     passed, failed, seen = 0, 0, collections.Counter()
     for number in range(given.first, given.first + given.weeks):

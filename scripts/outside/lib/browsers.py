@@ -13,6 +13,9 @@ Chromium is driven by devtools.py, Firefox by bidi.py. What both have:
   it `asked` for and `said`.
 """
 
+import contextlib
+import fcntl
+import os
 import pathlib
 import shutil
 
@@ -21,6 +24,8 @@ import devtools
 
 # The commands of Debian's browsers.
 COMMANDS = ("chromium", "firefox-esr")
+# What the package's viewer and the crew's page draw their map by.
+LEAFLET = "/usr/share/javascript/leaflet/leaflet.min.js:libjs-leaflet"
 
 
 def is_firefox(command):
@@ -39,3 +44,17 @@ def start(command, profile, camera=False, language="en"):
 def there():
     """The commands of the browsers that this machine has."""
     return [it for it in COMMANDS if shutil.which(it)]
+
+
+def needs(command):
+    """What a check wants that looks at a page in a browser."""
+    return f"{command}:{command}", LEAFLET
+
+
+@contextlib.contextmanager
+def held(command):
+    """Has a browser as soon as no other check has that one: on a busy machine they disturb one another."""
+    name = f"mmpkg-browser-{pathlib.Path(command).name}-{os.geteuid()}.lock"
+    with open(pathlib.Path(os.environ.get("TMPDIR") or "/tmp", name), "a", encoding="ascii") as lock:
+        fcntl.flock(lock, fcntl.LOCK_EX)
+        yield

@@ -1,12 +1,14 @@
-#!/usr/bin/env python3
+#!/usr/bin/python3
 """Drives each browser that is there as the checks of the page do.
 
 Its keys, mouse, fingers and files, what its profile keeps, and the crew's page:
 
-    MMPKG=out/mmpkg scripts/outside/lib/browsers_check.py [--browser chromium | firefox-esr] [WORD ..]
+    apt-get install chromium firefox-esr libjs-leaflet
+    scripts/outside/lib/browsers_check.py [PROGRAM] [--browser chromium | firefox-esr] [WORD ..]
 
 Without --browser each one that this machine has. WORD picks the checks whose names have it. The last line is
-'N passed, M failed'; the exit status is 1 where one failed.
+'N passed, M failed'. Exit status: 0 all passed, 1 something failed, 2 the program isn't there, 77 the browser or Leaflet
+isn't there.
 """
 
 import argparse
@@ -14,15 +16,14 @@ import contextlib
 import http.server
 import pathlib
 import sys
-import tempfile
-import threading
 
 sys.path.insert(0, str(pathlib.Path(__file__).resolve().parents[1] / "lib"))
-from checks import end, expect, mmpkg, run_checks  # noqa: E402
+from checks import end, expect, in_a_folder, mmpkg, new_package, run_checks, serving, want  # noqa: E402
 import browsers  # noqa: E402
 from crew_page import Crew, Gone, Seat  # noqa: E402
 from page_world import Tab  # noqa: E402
-from viewer_package import new_package, picture, record, take_in  # noqa: E402
+from images import picture  # noqa: E402
+from viewer_package import record, take_in  # noqa: E402
 
 PAGE = """<!doctype html><meta charset='utf-8'><meta name='viewport' content='width=device-width'><title>tried</title>
 <style>body * { position: absolute; left: 10px; width: 200px; height: 30px }</style>
@@ -228,18 +229,19 @@ def main():
     parser.add_argument("--browser", action="append")
     parser.add_argument("words", nargs="*", metavar="WORD")
     given = parser.parse_args()
+    commands = given.browser or browsers.there() or browsers.COMMANDS
+    want("no browser was driven", *(need for it in commands for need in browsers.needs(it)))
     passed = failed = 0
-    with http.server.ThreadingHTTPServer(("127.0.0.1", 0), Site) as server:
-        threading.Thread(target=server.serve_forever, daemon=True).start()
-        for command in given.browser or browsers.there():
+    with serving(http.server.ThreadingHTTPServer(("127.0.0.1", 0), Site)) as server:
+        for command in commands:
 
             def call(check, command=command):
-                with tempfile.TemporaryDirectory() as name:
-                    check(Scene(pathlib.Path(name), command, f"http://127.0.0.1:{server.server_address[1]}/"))
+                site = f"http://127.0.0.1:{server.server_address[1]}/"
+                in_a_folder(lambda folder: check(Scene(folder, command, site)))
 
-            good, bad = run_checks(command, globals(), given.words, call)
+            with browsers.held(command):
+                good, bad = run_checks(command, globals(), given.words, call)
             passed, failed = passed + good, failed + bad
-        server.shutdown()
     end(passed, failed)
 
 

@@ -1,25 +1,89 @@
-"""What the checks of this folder share: commands with what they have to answer, and checks that are run by their
-names."""
+"""What the checks share: the program, what a check wants, commands with what they have to answer, and checks that are
+run by their names.
 
+The program is the one that a check's first word names by a path, or else the environment's MMPKG, or else out/mmpkg, or
+else the one that the gate left. Checks begin with '#!/usr/bin/python3': that is Debian's interpreter, which alone is
+sure to have Debian's modules (GDAL's, Pillow, piexif).
+"""
+
+import argparse
+import contextlib
 import fcntl
 import os
 import pathlib
+import shutil
 import socket
 import sqlite3
 import struct
 import subprocess
 import sys
+import tempfile
+import threading
 import time
 import traceback
+import unittest
 
 TOP = pathlib.Path(__file__).resolve().parents[3]
 OUTSIDE = TOP / "scripts" / "outside"
 # The folders whose modules checks import: those of the checks, of the tools and of the model.
 FOLDERS = [*sorted(it for it in OUTSIDE.iterdir() if it.is_dir()), TOP / "tools", TOP / "scripts" / "model"]
 sys.path[1:1] = [str(it) for it in FOLDERS if str(it) not in sys.path]
-PROGRAM = os.path.realpath(os.environ.get("MMPKG") or TOP / "out" / "mmpkg")
+BUILT, OF_THE_GATE = TOP / "out" / "mmpkg", TOP / "crates" / "mm_cli" / "out" / "mm_cli"
+MODULES = "/usr/lib/python3/dist-packages"
 # How Linux is asked for a lock in the way of one's own: its kind, from where on, the first byte, how many, whose.
 LOCK = struct.Struct("hhqqi4x")
+# The sockets of the ports that this check was given.
+HELD = []
+
+
+def found_program():
+    """The path of the program; a word that names it is taken off the words."""
+    if len(sys.argv) > 1 and "/" in sys.argv[1] and not os.path.isdir(sys.argv[1]):
+        return os.path.realpath(sys.argv.pop(1))
+    built = OF_THE_GATE if OF_THE_GATE.exists() and not BUILT.exists() else BUILT
+    return os.path.realpath(os.environ.get("MMPKG") or built)
+
+
+PROGRAM = found_program()
+
+
+def is_there(name):
+    """Whether there is a file, or a command, also one of the administrator's."""
+    path = f"{os.environ['PATH']}:/usr/sbin:/sbin"
+    return os.path.exists(name) if "/" in name else shutil.which(name, path=path) is not None
+
+
+def want(words, *needs, program=True):
+    """Ends the check where it can't be done: with 2 where it wants the program and that isn't there; with 77, and these
+    words as the last line, where a command or a file isn't. Each is told as NAME:PACKAGE, the package being Debian's.
+    What the check runs finds the program by MMPKG.
+    """
+    if program and not os.access(PROGRAM, os.X_OK):
+        print(f"{PROGRAM} isn't there: scripts/build.sh makes out/mmpkg", file=sys.stderr)
+        sys.exit(2)
+    if program:
+        os.environ["MMPKG"] = PROGRAM
+    missing = [it.split(":") for it in needs if not is_there(it.split(":")[0])]
+    if missing:
+        names, packages = ([*dict.fromkeys(it)] for it in zip(*missing))
+        print(f"{words} ({' '.join(names)}): apt-get install {' '.join(packages)}")
+        sys.exit(77)
+
+
+def words_given(about, browser=False, **numbers):
+    """What the words of a check say: WORD .., by which it picks among its checks; numbers, by their names with what they
+    are where nothing is said; and where it wants a browser, which, and where its screenshots are kept."""
+    parser = argparse.ArgumentParser(description=about, formatter_class=argparse.RawDescriptionHelpFormatter)
+    for name, number in numbers.items():
+        parser.add_argument(f"--{name}", type=int, default=number)
+    if browser:
+        parser.add_argument("--browser", default="chromium")
+        parser.add_argument("--keep", type=pathlib.Path)
+    parser.add_argument("words", nargs="*", metavar="WORD")
+    given = parser.parse_args()
+    if browser and given.keep:
+        given.keep.mkdir(parents=True, exist_ok=True)
+    return given
 
 
 def run(*command, status=0, given=b"", out=subprocess.PIPE):
@@ -68,6 +132,12 @@ def wait_until_free(*files, seconds=60):
         time.sleep(0.02)
 
 
+def new_package(file, records="", status=0):
+    """Makes a package of records, all at the first moment there is."""
+    mmpkg("init", file)
+    mmpkg("run", file, "--at", 0, given=records.encode(), status=status)
+
+
 def held_port():
     """A socket that has a port of this machine: as long as it is there the system gives that to nobody else.
 
@@ -79,7 +149,25 @@ def held_port():
     return held
 
 
+def free_port():
+    """A port that nobody else is given as long as this check runs."""
+    HELD.append(held_port())
+    return HELD[-1].getsockname()[1]
+
+
+@contextlib.contextmanager
+def serving(server):
+    """A server of Python's that answers as long as the block goes on; it is closed behind it."""
+    threading.Thread(target=server.serve_forever, daemon=True).start()
+    try:
+        yield server
+    finally:
+        server.shutdown()
+        server.server_close()
+
+
 def expect(found, wanted, what):
+    """What was found has to be what was wanted."""
     assert found == wanted, f"{what}:\n  found:  {found!r:.1500}\n  wanted: {wanted!r:.1500}"
 
 
@@ -110,6 +198,19 @@ def run_checks(of, functions, words, call):
             traceback.print_exc(file=sys.stdout)
             print(f"{of}: {name}: FAILED", flush=True)
     return passed, failed
+
+
+def in_a_folder(check, *more):
+    """Does a check in a new folder, which is gone behind it."""
+    with tempfile.TemporaryDirectory() as folder:
+        return check(pathlib.Path(folder), *more)
+
+
+def run_tests():
+    """Runs the unit tests of the program that calls this, and ends by how many passed."""
+    done = unittest.main(exit=False).result
+    wrong = len(done.failures) + len(done.errors) + len(done.unexpectedSuccesses)
+    end(done.testsRun - wrong - len(done.skipped), wrong)
 
 
 def end(passed, failed):

@@ -14,10 +14,9 @@ from checks import PROGRAM, held_port
 KEY = "a-key-of-this-crew"
 STANDS = "all is in the package"
 AT_ONCE = 60
-HELD = []
-# The middle of an element, which is scrolled into view.
 # Waits until what is kept of a form is on the disk, where the page keeps something.
 IS_KEPT = "(async () => { try { await done(drafts('relaxed').count()); } catch { } })()"
+# The middle of an element, which is scrolled into view.
 MIDDLE = """it => {
   it.scrollIntoView({ block: 'center' });
   const { x, y, width, height } = it.getBoundingClientRect();
@@ -49,12 +48,6 @@ def press_at_rest(page, element):
     if where is None:
         raise Gone(element)
     page.click(*where)
-
-
-def free_port():
-    """A port that nobody else is given as long as this program runs."""
-    HELD.append(held_port())
-    return HELD[-1].getsockname()[1]
 
 
 class Seat:

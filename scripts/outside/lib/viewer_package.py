@@ -3,18 +3,25 @@ places, rows and media."""
 
 import contextlib
 import dataclasses
-import struct
 import subprocess
 import zlib
 
-from checks import PROGRAM, TOP, expect, held_port, mmpkg, run
-import page_map
+from checks import PROGRAM, TOP, expect, held_port, run
+import images
 from border import UNITS_PER_METRE, Piece, media_piece, record, tile_piece
+from images import picture
 
 TOOL = TOP / "tools" / "make_viewer.py"
 
 BLANK = (228, 232, 234)
 PLAIN = (40, 90, 160)
+UTM = (
+    'PROJCS["ETRS89 / UTM zone 32N",GEOGCS["ETRS89",DATUM["European_Terrestrial_Reference_System_1989",'
+    'SPHEROID["GRS 1980",6378137,298.257222101]],PRIMEM["Greenwich",0],UNIT["degree",0.0174532925199433]],'
+    'PROJECTION["Transverse_Mercator"],PARAMETER["latitude_of_origin",0],PARAMETER["central_meridian",9],'
+    'PARAMETER["scale_factor",0.9996],PARAMETER["false_easting",500000],PARAMETER["false_northing",0],'
+    'UNIT["metre",1]]'
+)
 SEEN_SECONDS = 600
 
 
@@ -63,13 +70,8 @@ class Pyramid:
 
     def tile(self, zoom, column, row):
         """A picture of four colours, one a quarter."""
-        across, down = zoom.wide // 2, zoom.high // 2
-        upper, lower = (
-            b"\0"
-            + b"".join(bytes(self.colour(zoom.zoom, 2 * column + right, 2 * row + below)) * across for right in (0, 1))
-            for below in (0, 1)
-        )
-        return png(zoom.wide, zoom.high, upper * down + lower * down)
+        places = [(2 * column + right, 2 * row + below) for below in (0, 1) for right in (0, 1)]
+        return images.quarters(zoom.wide, zoom.high, [self.colour(zoom.zoom, *it) for it in places])
 
     def colour(self, zoom, quarter_column, quarter_row):
         if self.table == "plain":
@@ -142,19 +144,6 @@ PYRAMIDS = [
 ]
 
 
-def png(wide, high, rows):
-    return (
-        b"\x89PNG\r\n\x1a\n"
-        + page_map.chunk(b"IHDR", struct.pack(">IIBBBBB", wide, high, 8, 2, 0, 0, 0))
-        + page_map.chunk(b"IDAT", zlib.compress(rows))
-        + page_map.chunk(b"IEND", b"")
-    )
-
-
-def picture(wide, high, colour):
-    return png(wide, high, (b"\0" + bytes(colour) * wide) * high)
-
-
 def content():
     """The layout and the content of the package, but for the viewer."""
     systems = [["srs", 25832 + it, f"UTM {32 + it}N", "EPSG", 25832 + it, "metres", ""] for it in range(3)]
@@ -190,9 +179,26 @@ def content():
     )
 
 
-def new_package(file, records=""):
-    mmpkg("init", file)
-    mmpkg("run", file, "--at", 0, given=records.encode())
+def base_map(zooms):
+    """The map of packages that a crew works at, with so many zooms."""
+    return Pyramid("base", "Base map", 25832, 500_000, 5_601_024, "two", PYRAMIDS[0].zooms[:zooms])
+
+
+def content_of_crews(base, *more):
+    """A map in UTM, one in a plan's system, the tables of rows, of their owners and of photos, and more records."""
+    systems = [
+        ["srs", 25832, "ETRS89 / UTM zone 32N", "EPSG", 25832, UTM, ""],
+        ["srs", 7, "plan", "NONE", 7, "metres of a plan", ""],
+    ]
+    plan = Pyramid("plan", "Plan", 7, 0, 128, "two", base.zooms[-1:])
+    tables = [
+        ["table", "owners", "attributes", "Owners"],
+        ["table", "spots", "attributes", "Spots"],
+        ["table", "photos", "media", "Photos"],
+        ["relation", "spots_photos", "spots", "photos", "media"],
+        ["relation", "owners_spots", "owners", "spots", "simple_attributes"],
+    ]
+    return "".join([*map(record, systems), base.records(), plan.records(), *map(record, [*tables, *more])])
 
 
 def take_in(file, out, *words):

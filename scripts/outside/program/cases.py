@@ -1,4 +1,4 @@
-#!/usr/bin/env python3
+#!/usr/bin/python3
 r"""Runs the program on the transcripts of a folder, and compares all that it answers byte by byte.
 
     scripts/outside/program/cases.py PROGRAM FOLDER     the last line is 'N passed, M failed'

@@ -7,7 +7,9 @@
 #     scripts/outside/program/clock.sh [PROGRAM]
 set -eu -o pipefail
 
-program=$(realpath "${1:-${MMPKG:-$(dirname "$0")/../../../out/mmpkg}}")
+# shellcheck source=scripts/outside/lib/program.sh
+source "$(dirname "$0")/../lib/program.sh" "${1:-}"
+program=$MMPKG
 for needed in cc sqlite3 curl; do
     command -v "$needed" >/dev/null || { echo "no $needed here"; exit 77; }
 done

@@ -4,17 +4,15 @@
 #
 #     scripts/outside/program/deb_check.sh [PROGRAM]
 #
-# PROGRAM is the built program: without it the one that the environment's MMPKG names, or else out/mmpkg. The fresh Debian
-# (bookworm, minbase, with python3, libjs-leaflet and curl) is made by debootstrap, which takes a minute or two, and kept
-# packed in a folder of the system's for such files, so that the next look takes seconds. Exit status: 0 all passed, 1
-# something failed, 77 it can't be made, and nothing was tried: that wants root, Debian's dpkg-dev, lintian and
-# debootstrap, and its servers.
+# The fresh Debian (bookworm, minbase, with python3, libjs-leaflet and curl) is made by debootstrap, which takes a minute
+# or two, and kept packed in a folder of the system's for such files, so that the next look takes seconds. Exit status: 0
+# all passed, 1 something failed, 2 the program isn't there, 77 it can't be made, and nothing was tried: that wants root,
+# Debian's dpkg-dev, lintian and debootstrap, and its servers.
 set -u -o pipefail
 
-top=$(cd "$(dirname "$0")/../../.." && pwd)
+# shellcheck source=scripts/outside/lib/program.sh
+source "$(dirname "$0")/../lib/program.sh" "${1:-}"
 cd "$top" || exit 1
-export MMPKG
-MMPKG=$(realpath -m "${1:-${MMPKG:-out/mmpkg}}")
 kept=${TMPDIR:-/tmp}/mmpkg-debian-$(id -u)
 folder=$(mktemp -d)
 trap 'rm -rf "$folder"' EXIT
@@ -121,7 +119,7 @@ tours() {
     cp -r scripts/outside "$root/clone/scripts/"
     ln -s /usr/share/doc/mmpkg/examples "$root/clone/examples"
     ln -s /usr/share/mmpkg "$root/clone/tools"
-    inside python3 -B /clone/scripts/outside/tree/check_docs.py --tours /usr/bin/mmpkg
+    inside python3 -B /clone/scripts/outside/tree/check_docs.py /usr/bin/mmpkg --tours
 }
 
 # A package goes out to the standard and in again, by the commands alone.
@@ -160,10 +158,10 @@ remove() {
     inside dpkg --purge mmpkg && list_files | diff "$folder/before" -
 }
 
-[ -x "$MMPKG" ] || { echo "$MMPKG isn't there: scripts/build.sh makes out/mmpkg" && exit 1; }
 [ "$(id -u)" = 0 ] || not_tried "a fresh Debian wants root"
-for it in dpkg-shlibdeps:dpkg-dev lintian:lintian debootstrap:debootstrap man:man-db; do
-    command -v "${it%%:*}" >/dev/null && continue
+for it in dpkg-shlibdeps:dpkg-dev lintian:lintian debootstrap:debootstrap man:man-db \
+    /usr/lib/python3/dist-packages/PIL:python3-pil; do
+    [ -e "${it%%:*}" ] || command -v "${it%%:*}" >/dev/null && continue
     apt-get install -y --no-install-recommends "${it#*:}" >"$folder/said" 2>&1 || not_tried "${it#*:} isn't there"
 done
 make_debian >"$folder/said" 2>&1 || not_tried "no fresh Debian: $(tail -n 1 "$folder/said")"

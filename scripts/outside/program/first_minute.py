@@ -1,4 +1,4 @@
-#!/usr/bin/env python3
+#!/usr/bin/python3
 """As a new user: from the installed package to a row with a photo on the map, within a minute. Called by
 scripts/outside/program/deb_check.sh.
 
@@ -19,8 +19,9 @@ import time
 
 sys.path.insert(0, str(pathlib.Path(__file__).resolve().parents[1] / "lib"))
 import devtools  # noqa: E402
-from crew_page import Crew, free_port  # noqa: E402
-from viewer_package import picture  # noqa: E402
+from checks import free_port  # noqa: E402
+from crew_page import Crew  # noqa: E402
+from images import picture  # noqa: E402
 
 EXAMPLE = "/usr/share/doc/mmpkg/examples/crew.csv"
 # How many marks are where the tap was, within a pixel or two.

@@ -1,4 +1,4 @@
-#!/usr/bin/env python3
+#!/usr/bin/python3
 """Puts a package of profile 2 back to profile 1, whole millimetres, so that `mmpkg migrate` can be tried and tested.
 
     scripts/outside/program/make_profile_1.py FILE

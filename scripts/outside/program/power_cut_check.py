@@ -1,13 +1,19 @@
-#!/usr/bin/env python3
-"""Cuts the power of a virtual machine in the middle of lists of commands (power_cut.sh calls it).
+#!/usr/bin/python3
+"""A power cut on a real file system: a virtual machine runs `mmpkg run` on a list and is killed at a random moment; it
+boots again, the file system replays, and `mmpkg check` is `package ok`.
 
-    power_cut_check.py ROOM CUTS SEED
+    apt-get install qemu-system-x86 busybox-static e2fsprogs dosfstools mtools cpio kmod
+    scripts/outside/program/power_cut_check.py [PROGRAM] [--cuts N] [--seed N]
 
-ROOM has Debian's kernel in ROOM/kernel. Each cut has a list of its own; the answers that came before it are those of a
-model in plain Python, and the tables of the file are those of the model's package behind the last answered command, or
-behind the one after it.
+Each cut has a list of its own; the answers that came before it are those of a model in plain Python, and the tables of
+the file are those of the model's package behind the last answered command, or behind the one after it. Without --cuts
+there are ten: seven on ext4, three on vfat. The kernel is Debian's, taken out of its package and not installed. The last
+line is 'N passed, M failed'. Exit status: 0 all passed, 1 something failed, 2 the program isn't there, 77 qemu or the
+kernel can't be had.
 """
+
 import itertools
+import os
 import pathlib
 import random
 import re
@@ -18,7 +24,7 @@ import sys
 import time
 
 sys.path.insert(0, str(pathlib.Path(__file__).resolve().parents[1] / "lib"))
-from checks import PROGRAM, end, expect, mmpkg, run  # noqa: E402
+from checks import PROGRAM, end, expect, in_a_folder, mmpkg, run, want, words_given  # noqa: E402
 from package_model import Package  # noqa: E402
 from package_records import Refused, read_command, records  # noqa: E402
 from package_views import query_of, table_rows  # noqa: E402
@@ -27,6 +33,10 @@ from random_records import OPENING, Author  # noqa: E402
 # How many records a list has, how long the machine may boot, and at most how long behind the first answer the power is
 # cut, in seconds.
 RECORDS, BOOT, LONGEST_CUT = 6000, 600, 7.0
+NEEDS = (
+    "qemu-system-x86_64:qemu-system-x86", "busybox:busybox-static", "mkfs.ext4:e2fsprogs", "debugfs:e2fsprogs",
+    "mkfs.vfat:dosfstools", "mcopy:mtools", "cpio:cpio", "modprobe:kmod",
+)  # fmt: skip
 MOMENT = 951868800000
 DISK_BYTES = 128 << 20
 FILE = "p.mmpkg"
@@ -270,8 +280,17 @@ def cut(machine, chance):
     return len(told), stands_in_full(text, told, rows_of(folder / FILE))
 
 
-def main():
-    room, cuts, seed = pathlib.Path(sys.argv[1]), int(sys.argv[2]), int(sys.argv[3])
+def put_kernel(room):
+    """Downloads Debian's newest kernel for this processor, and takes it out of its package."""
+    told = run("apt-cache", "depends", "linux-image-amd64")[0]
+    (name, *_) = re.findall(r"^ *Depends: (\S+)", told, re.MULTILINE) or [""]
+    assert name, "linux-image-amd64 names no kernel"
+    run("env", "-C", room, "apt-get", "download", name)
+    run("dpkg", "-x", *room.glob(f"{name}_*.deb"), room / "kernel")
+
+
+def cut_all(room, cuts, seed):
+    """All cuts; answers how many passed and failed."""
     systems = [it for it in itertools.islice(itertools.cycle(["ext4", "ext4", "vfat"]), cuts)]
     machines = {system: Machine(room, room / "kernel", system) for system in sorted(set(systems))}
     passed = failed = answers = more = 0
@@ -287,7 +306,24 @@ def main():
             failed += 1
             print(f"cut {number} on {system} (seed {seed}): {error}", flush=True)
     print(f"{answers} answers in all, all as in the model; {more} commands stood that were not answered")
-    end(passed, failed)
+    return passed, failed
+
+
+def with_a_kernel(room, given):
+    """Has the kernel, and cuts."""
+    try:
+        put_kernel(room)
+    except (AssertionError, OSError):
+        print("no power was cut: Debian's linux-image-amd64 can't be had")
+        sys.exit(77)
+    return cut_all(room, given.cuts, given.seed)
+
+
+def main():
+    given = words_given(__doc__, cuts=10, seed=random.randrange(32768))
+    want("no power was cut", *NEEDS)
+    os.environ["PATH"] += ":/usr/sbin:/sbin"
+    end(*in_a_folder(with_a_kernel, given))
 
 
 if __name__ == "__main__":

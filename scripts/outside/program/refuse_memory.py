@@ -1,13 +1,12 @@
-#!/usr/bin/env python3
+#!/usr/bin/python3
 """Refuses each growth of memory in turn, and looks at what the program answers and at what then stands.
 
-    scripts/outside/program/refuse_memory.py [--seconds N | --whole] [PROGRAM]
+    scripts/outside/program/refuse_memory.py [PROGRAM] [--seconds N | --whole]
 
-PROGRAM is the built program: without it the one of the environment's MMPKG, or out/mmpkg. The program asks the C
-library for memory. A small library is loaded before it whose N-th call of malloc or realloc answers that there is none;
-N counts upwards until a run meets no refusal. The answer has to be that of ample memory, or fault 90 behind what was
-answered before. What then stands in the file, its rows read by Python's sqlite3, has to be the package after the
-commands that were acknowledged, or after one more.
+The program asks the C library for memory. A small library is loaded before it whose N-th call of malloc or realloc
+answers that there is none; N counts upwards until a run meets no refusal. The answer has to be that of ample memory, or
+fault 90 behind what was answered before. What then stands in the file, its rows read by Python's sqlite3, has to be the
+package after the commands that were acknowledged, or after one more.
 
 Each subcommand is a case, and so is each command, accepted once, each kind of read through the page, a list whose
 records can't be read, a list that is sent to a desk, and rows that one shows. With --whole each growth of each case is
@@ -31,7 +30,7 @@ import tempfile
 import time
 
 sys.path.insert(0, str(pathlib.Path(__file__).resolve().parents[1] / "lib"))
-from checks import TOP, held_port  # noqa: E402
+from checks import PROGRAM, held_port, want  # noqa: E402
 from make_profile_1 import put_back  # noqa: E402
 
 # How many seconds a run of the program may take.
@@ -208,8 +207,8 @@ def asked(running, port, sent):
 class Room:
     """A folder of a case's own, in which the program is run from the same beginning again and again."""
 
-    def __init__(self, program, library, folder, case):
-        self.program, self.library, self.folder, self.case = program, library, folder, case
+    def __init__(self, library, folder, case):
+        self.library, self.folder, self.case = library, folder, case
         self.file, self.held = folder / "a.mmpkg", held_port()
         self.port = self.held.getsockname()[1]
         (folder / "kit").mkdir()
@@ -225,8 +224,8 @@ class Room:
     def make(self):
         """Makes the package that the case begins with."""
         how = {"cwd": self.folder, "capture_output": True, "check": True, "timeout": PATIENCE}
-        subprocess.run([self.program, "init", self.file], **how)
-        subprocess.run([self.program, "run", self.file, "--at", "0"], input=self.case.start.encode(), **how)
+        subprocess.run([PROGRAM, "init", self.file], **how)
+        subprocess.run([PROGRAM, "run", self.file, "--at", "0"], input=self.case.start.encode(), **how)
         if self.case.words[0] == "migrate" and not put_back(self.file):
             raise Wrong("no package of profile 1 is made")
 
@@ -242,7 +241,7 @@ class Room:
         self.put_start()
         subcommand, *rest = self.case.words
         words = [
-            self.program,
+            PROGRAM,
             subcommand,
             self.file,
             *self.case.behind,
@@ -349,11 +348,11 @@ def growths(room):
     return low
 
 
-def sweep(program, library, case, seconds):
+def sweep(library, case, seconds):
     """Refuses each growth of a case, or every so many-th as the seconds allow; returns how many there are, and that
     stride."""
     with tempfile.TemporaryDirectory(prefix="refuse_") as folder:
-        room = Room(program, library, pathlib.Path(folder), case)
+        room = Room(library, pathlib.Path(folder), case)
         found = room.standings()
         (room.folder / "kit" / "kit.csv").write_bytes(KIT["kit.csv"])
         ample, count, began = room.run(0), growths(room), time.monotonic()
@@ -366,15 +365,15 @@ def sweep(program, library, case, seconds):
 
 def main():
     parser = argparse.ArgumentParser(description="Refuses each growth of memory in turn.")
-    parser.add_argument("program", nargs="?", default=os.environ.get("MMPKG", TOP / "out" / "mmpkg"))
     parser.add_argument("--seconds", type=float, default=120)
     parser.add_argument("--whole", action="store_true")
     given = parser.parse_args()
-    program, all_cases, workers, tried = os.path.abspath(given.program), list(cases()), os.cpu_count() or 1, 0
+    want("no memory was refused", "cc:gcc")
+    all_cases, workers, tried = list(cases()), os.cpu_count() or 1, 0
     seconds = math.inf if given.whole else given.seconds * workers / len(all_cases)
     with tempfile.TemporaryDirectory() as folder, concurrent.futures.ProcessPoolExecutor(workers) as pool:
         library = build_refuser(pathlib.Path(folder))
-        told = [(it, pool.submit(sweep, program, library, it, seconds)) for it in all_cases]
+        told = [(it, pool.submit(sweep, library, it, seconds)) for it in all_cases]
         for case, answer in told:
             try:
                 count, stride = answer.result()

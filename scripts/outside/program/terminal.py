@@ -1,15 +1,19 @@
-#!/usr/bin/env python3
+#!/usr/bin/python3
 """A run whose records are typed on a terminal: each is answered at once, and one end key ends the list.
 
-    scripts/outside/program/terminal.py PROGRAM
+    scripts/outside/program/terminal.py [PROGRAM]
 """
 import os
+import pathlib
 import pty
 import select
 import subprocess
 import sys
 import tempfile
 import time
+
+sys.path.insert(0, str(pathlib.Path(__file__).resolve().parents[1] / "lib"))
+from checks import PROGRAM, mmpkg, want  # noqa: E402
 
 WAIT = 60
 END_KEY = b"\x04"
@@ -32,10 +36,10 @@ def read_until(terminal, wanted):
     return shown
 
 
-def typed(program, package):
+def typed(package):
     """Types two records and one end key, and returns what is wrong, or None."""
     terminal, its_end = pty.openpty()
-    run = subprocess.Popen([program, "run", package], stdin=its_end, stdout=its_end, stderr=its_end)
+    run = subprocess.Popen([PROGRAM, "run", package], stdin=its_end, stdout=its_end, stderr=its_end)
     os.close(its_end)
     try:
         for number, record in ((1, b"edition,a\n"), (2, b"edition,a\n")):
@@ -55,11 +59,11 @@ def typed(program, package):
 
 
 def main():
-    program = os.path.realpath(sys.argv[1])
+    want("nothing was typed")
     with tempfile.TemporaryDirectory() as folder:
         package = f"{folder}/a.mmpkg"
-        subprocess.run([program, "init", package], check=True, stdout=subprocess.DEVNULL)
-        wrong = typed(program, package)
+        mmpkg("init", package)
+        wrong = typed(package)
     print(wrong or "two records are answered as they are typed, and one end key ends the list")
     return 1 if wrong else 0
 

@@ -1,4 +1,4 @@
-#!/usr/bin/env python3
+#!/usr/bin/python3
 """README's two commands, one behind the other in one clone: what a build leaves beside the tree, however it ends.
 
     scripts/outside/tree/build_check.py [WORD ..]
@@ -14,11 +14,10 @@ import shutil
 import signal
 import subprocess
 import sys
-import tempfile
 import time
 
 sys.path.insert(0, str(pathlib.Path(__file__).resolve().parents[1] / "lib"))
-from checks import TOP, end, expect, run_checks  # noqa: E402
+from checks import TOP, end, expect, in_a_folder, run_checks, words_given  # noqa: E402
 
 CRATES = {"low": "", "high": "low", "mm_cli": "low high"}
 SCRIPTS = (".ci/run", "scripts/build.sh", "scripts/prove.py")
@@ -203,9 +202,9 @@ def check_a_second_build_waits_for_the_first(tree):
 
 
 def in_a_new_tree(check):
-    with tempfile.TemporaryDirectory() as folder:
-        check(Tree(pathlib.Path(folder)))
+    """Does a check in a tree of its own."""
+    in_a_folder(lambda folder: check(Tree(folder)))
 
 
 if __name__ == "__main__":
-    end(*run_checks("build", globals(), sys.argv[1:], in_a_new_tree))
+    end(*run_checks("build", globals(), words_given(__doc__).words, in_a_new_tree))

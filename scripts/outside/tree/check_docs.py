@@ -1,7 +1,7 @@
-#!/usr/bin/env python3
+#!/usr/bin/python3
 """Compares the documents with what they speak of.
 
-    scripts/outside/tree/check_docs.py [--tours] [PROGRAM]     the last line is 'N passed, M failed'
+    scripts/outside/tree/check_docs.py [PROGRAM] [--tours]     the last line is 'N passed, M failed'
 
 Each line ' $ COMMAND' of README.md and docs/USING.md is run in turn, in a new folder with the examples, and must print
 the lines that stand below it; 'cat' of a file that is not there makes it of them. Each edit of must-fail/ and each
@@ -9,9 +9,9 @@ mutant names a contract of docs/PROOFS.md; each name in backticks of any documen
 in some crate, script or transcript. Each line of cases/README.md names what shows its behaviour: a transcript, a test,
 an edit, a mutant or a script that there is, or behind 'proved:' a name of docs/PROOFS.md. Each text of docs/NUMBERS.md
 is what the program explains by its number, whole, and each number of docs/FORMATS.md has one. Each example in the head
-of a crate stands word for word among the tests. With --tours the commands alone are run. PROGRAM is the built program:
-without it out/mmpkg, or else the one that the gate left in crates/mm_cli/out.
+of a crate stands word for word among the tests. With --tours the commands alone are run.
 """
+
 import os
 import pathlib
 import re
@@ -20,15 +20,16 @@ import sys
 import tempfile
 
 sys.path.insert(0, str(pathlib.Path(__file__).resolve().parents[1] / "lib"))
-from checks import TOP, held_port  # noqa: E402
+from checks import PROGRAM, TOP, end, held_port, want  # noqa: E402
 
 TOURS = "README.md", "docs/USING.md"
-PROGRAMS = "out/mmpkg", "crates/mm_cli/out/mm_cli"
 PROMISES = "docs/PROOFS.md"
 FORMATS, NUMBERS = "docs/FORMATS.md", "docs/NUMBERS.md"
 SHOWN = "cases/README.md"
 TESTED = "crates/mm_test_sessions/src/examples.rt"
 PORTS = "8090", "8080"
+# What the tours run in; their tools find the program by themselves.
+ENVIRONMENT = dict(os.environ)
 # What the system names, and what stands behind a name that a tool makes: a number, or the word of a mark.
 ELSEWHERE = {"sched_autogroup_enabled"}
 NUMBERED = re.compile(r"(_\d+|_MARK\w*)+$")
@@ -58,20 +59,20 @@ def steps_of(text):
 class Tour:
     """A folder in which the commands of a document are run."""
 
-    def __init__(self, folder, program):
+    def __init__(self, folder):
         self.folder = folder
         self.held = {it: held_port() for it in PORTS}
         self.ports = {it: str(held.getsockname()[1]) for it, held in self.held.items()}
         self.served = []
         os.makedirs(f"{folder}/bin")
-        os.symlink(program, f"{folder}/bin/mmpkg")
+        os.symlink(PROGRAM, f"{folder}/bin/mmpkg")
         for name in "examples", "scripts", "tools":
             os.symlink(f"{TOP}/{name}", f"{folder}/{name}")
         with open(f"{folder}/notes.mmpkg", "w", encoding="utf-8") as it:
             it.write("some notes")
         # Python writes nothing beside the tools, which may be a package's.
         more = {"PATH": f"{folder}/bin:{os.environ['PATH']}", "LC_ALL": "C.UTF-8", "PYTHONDONTWRITEBYTECODE": "1"}
-        self.environment = os.environ | more
+        self.environment = ENVIRONMENT | more
 
     def start(self, command):
         """Starts a command that goes on behind the next, and returns the first line that it prints."""
@@ -118,10 +119,10 @@ class Tour:
             ran.wait()
 
 
-def tour_fits(path, program):
+def tour_fits(path):
     """Returns whether each command of a document prints what stands below it."""
     with tempfile.TemporaryDirectory(prefix="mmpkg-docs-") as folder:
-        tour = Tour(folder, program)
+        tour = Tour(folder)
         try:
             fits = all([tour.step(command, lines) for command, lines in steps_of(text_of(path))])
         finally:
@@ -148,20 +149,20 @@ def numbers_of_formats():
     return named | {f"rule Q{k}" for k in range(1, 17)} | {"not empty"}
 
 
-def numbers_are_explained(program):
+def numbers_are_explained():
     """Returns whether each number and rule has its text, and the program explains it by just that."""
     texts, named = explained(), numbers_of_formats()
     for it in sorted(named ^ set(texts)):
         print(f"{it}: it stands in one of {FORMATS} and {NUMBERS} alone")
-    wrong = [head for head, text in texts.items() if text != explanation(program, head)]
+    wrong = [head for head, text in texts.items() if text != explanation(head)]
     for it in wrong:
         print(f"{NUMBERS}: the program has another text for {it}")
     return not wrong and named == set(texts)
 
 
-def explanation(program, head):
+def explanation(head):
     """Returns what the program explains by the words of a heading."""
-    said = subprocess.run([program, "explain", *head.split()], stdout=subprocess.PIPE, check=False)
+    said = subprocess.run([PROGRAM, "explain", *head.split()], stdout=subprocess.PIPE, check=False)
     return said.stdout.decode()
 
 
@@ -264,25 +265,18 @@ def examples_are_tested():
 
 def main():
     os.chdir(TOP)
-    words = [it for it in sys.argv[1:] if it != "--tours"]
-    given = words or [it for it in PROGRAMS if os.path.exists(it)]
-    if not given:
-        print("there is no built program", file=sys.stderr)
-        return 1
-    program = os.path.realpath(given[0])
-    answers = [tour_fits(path, program) for path in TOURS]
+    want("no document was looked through")
+    answers = [tour_fits(path) for path in TOURS]
     if "--tours" not in sys.argv:
         answers += [
-            numbers_are_explained(program),
+            numbers_are_explained(),
             wrong_bodies_name_contracts(),
             all_names_stand(),
             behaviours_are_shown(),
             examples_are_tested(),
         ]
-    passed = sum(answers)
-    print(f"{passed} passed, {len(answers) - passed} failed")
-    return 0 if all(answers) else 1
+    end(answers.count(True), answers.count(False))
 
 
 if __name__ == "__main__":
-    sys.exit(main())
+    main()

@@ -1,4 +1,4 @@
-#!/usr/bin/env python3
+#!/usr/bin/python3
 """Names each place where the program's code calls the system for a file or a port, and fails where one stands
 elsewhere.
 

@@ -1,4 +1,4 @@
-#!/usr/bin/env python3
+#!/usr/bin/python3
 """What eslint is told of the page's modules. Called by scripts/outside/tree/lint.sh.
 
     cp tools/page/*.js FOLDER; scripts/outside/tree/page_state.py >FOLDER/rules.json

@@ -1,16 +1,16 @@
-#!/usr/bin/env python3
-"""Looks at the viewer that travels in a package as a surveyor does, in a browser without a window. Called by
-scripts/outside/viewer/viewer.sh.
+#!/usr/bin/python3
+"""Looks at the viewer that travels in a package (docs/BORDER.md) as a surveyor does, in a browser without a window.
 
-    MMPKG=out/mmpkg scripts/outside/viewer/viewer_check.py [--browser chromium | firefox-esr] [--keep FOLDER] [WORD ..]
+    apt-get install chromium firefox-esr libjs-leaflet python3-pil
+    scripts/outside/viewer/viewer_check.py [PROGRAM] [--browser chromium | firefox-esr] [--keep FOLDER] [WORD ..]
 
 A package of four pyramids and photos gets its viewer by the tool's own commands, and 'mmpkg serve' serves it. Each
 place of the map has to show the colour that this script gave the tile there; the place is what the page tells of the
 pointer, and what the tile is follows from the package's layout alone. --keep keeps the screenshots in a folder; WORD
-picks the checks whose names have it. The last line is 'N passed, M failed'; the exit status is 1 where one failed.
+picks the checks whose names have it. The last line is 'N passed, M failed'. Exit status: 0 all passed, 1 something
+failed, 2 the program isn't there, 77 the browser or Leaflet isn't there.
 """
 
-import argparse
 import contextlib
 import dataclasses
 import json
@@ -27,10 +27,13 @@ import time
 import traceback
 
 sys.path.insert(0, str(pathlib.Path(__file__).resolve().parents[1] / "lib"))
-from checks import PROGRAM, TOP, content_of, end, expect, mmpkg, run, run_checks  # noqa: E402
+from checks import (  # noqa: E402
+    PROGRAM, TOP, content_of, end, expect, mmpkg, new_package, run, run_checks, want, words_given,
+)  # fmt: skip
 import browsers  # noqa: E402
 import make_profile_1  # noqa: E402
-import page_map  # noqa: E402
+import images  # noqa: E402
+from images import picture  # noqa: E402
 from viewer_package import (  # noqa: E402
     BLANK,
     PLAIN,
@@ -38,8 +41,6 @@ from viewer_package import (  # noqa: E402
     TOOL,
     UNITS_PER_METRE,
     content,
-    new_package,
-    picture,
     served,
     take_in,
     tile_piece,
@@ -78,7 +79,7 @@ class Scene:
         data = page.screenshot()
         if self.keep:
             (self.keep / f"{name}.png").write_bytes(data)
-        return page_map.read_png(data)
+        return images.pixels_of(data)
 
 
 def settle(page):
@@ -257,7 +258,7 @@ def check_no_hair_lines(scene):
             page.value("byId('map').classList.remove('centre')")
             x, y = middle(page, "map")
             data = page.screenshot((x - 80, y - 40, 160, 80))
-            off = max(abs(a - b) for row in page_map.read_png(data) for pixel in row for a, b in zip(pixel, PLAIN))
+            off = max(abs(a - b) for row in images.pixels_of(data) for pixel in row for a, b in zip(pixel, PLAIN))
             assert off <= (
                 0 if scale == int(scale) else 6
             ), f"a pixel is off by {off} at zoom {zoom} on a screen of {scale}"
@@ -835,14 +836,9 @@ def check_tool_without_leaflet(scene):
 
 
 def main():
-    parser = argparse.ArgumentParser(description=__doc__, formatter_class=argparse.RawDescriptionHelpFormatter)
-    parser.add_argument("--browser", default="chromium")
-    parser.add_argument("--keep", type=pathlib.Path)
-    parser.add_argument("words", nargs="*", metavar="WORD")
-    given = parser.parse_args()
-    if given.keep:
-        given.keep.mkdir(parents=True, exist_ok=True)
-    with tempfile.TemporaryDirectory() as name:
+    given = words_given(__doc__, browser=True)
+    want("the viewer wasn't looked at", *browsers.needs(given.browser))
+    with tempfile.TemporaryDirectory() as name, browsers.held(given.browser):
         folder = pathlib.Path(name)
         with browsers.start(given.browser, folder / "profile") as browser:
             scene = Scene(folder, browser, given.keep)

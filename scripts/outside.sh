@@ -1,16 +1,18 @@
 #!/usr/bin/env bash
 # What the built program shows from outside, by programs that share no code with this repository: the example with its
-# output, the lines of the documents, where the program calls the system for files, what a build leaves in its clone, the
-# tables of the file, the page and the desk by curl and over sockets, a machine's clock at its ends, a terminal, refused
-# growths of memory, random lists against a model, what turns one package into another, copies that go out and come home;
-# and where the peers are there, the border to the standard, maps by one command and beside a package, the viewer in two
-# browsers, a crew at the page and its command, GDAL and QGIS by WMTS, the day of two crews by lists and by the page, the
-# Debian package in a fresh Debian, and the power of a virtual machine that is cut. The last line is 'N passed, M failed'.
+# output, the lines of the documents, where the program calls the system for files, what a build leaves in its clone,
+# the tables of the file, the page and the desk by curl and over sockets, a machine's clock at its ends, a terminal,
+# refused growths of memory, random lists against a model, what turns one package into another, copies that go out and
+# come home; and where the peers are there, the border to the standard, maps by one command and beside a package, the
+# viewer in two browsers, a crew at the page and its command, GDAL and QGIS by WMTS, the day of two crews by lists and
+# by the page, the Debian package in a fresh Debian, and the power of a virtual machine that is cut. The last line is 'N
+# passed, M failed'.
 #
 #     scripts/outside.sh [PROGRAM]
 #
 # PROGRAM is the built program: without it the environment's MMPKG, or out/mmpkg, or else the one that the gate left in
-# crates/mm_cli/out. With WHOLE in the environment each growth of memory is refused, else as many as three minutes allow.
+# crates/mm_cli/out. With WHOLE in the environment each growth of memory is refused, else as many as three minutes
+# allow.
 set -u -o pipefail
 
 # shellcheck source=scripts/outside/lib/program.sh
@@ -23,7 +25,8 @@ failed=0
 names=()
 side_by_side=$(nproc)
 
-# Installs Debian's packages of the commands and files that are missing, and names those that can't be had: COMMAND:PACKAGE ..
+# Installs Debian's packages of the commands and files that are missing, and names those that can't be had:
+# COMMAND:PACKAGE ..
 want() {
     local it updated=
     for it in "$@"; do

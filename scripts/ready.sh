@@ -1,6 +1,7 @@
 #!/usr/bin/env bash
-# What to run before a push, short of the gate: lays out what changed, tries the tests with no proof, looks through the documents, and then proves the
-# crates that changed since a commit with those above them, runs the tests among them, and tries their edits.
+# What to run before a push, short of the gate: lays out what changed, tries the tests with no proof, looks through the
+# documents, and then proves the crates that changed since a commit with those above them, runs the tests among them,
+# and tries their edits.
 #
 #     scripts/ready.sh [COMMIT]      without it: origin's main
 set -eu -o pipefail

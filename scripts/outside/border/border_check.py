@@ -41,7 +41,10 @@ from border import (  # noqa: E402
 
 TOOLS = TOP / "tools"
 
-UTM = 'PROJCS["a grid",GEOGCS["g",DATUM["d",SPHEROID["s",6378137,298]],PRIMEM["p",0],UNIT["degree",0.01745]],UNIT["metre",1]]'
+UTM = (
+    'PROJCS["a grid",GEOGCS["g",DATUM["d",SPHEROID["s",6378137,298]],PRIMEM["p",0],UNIT["degree",0.01745]],'
+    'UNIT["metre",1]]'
+)
 NOT_COMPARED = {
     ("gpkg_contents", "last_change"),
     ("gpkgext_relations", "id"),
@@ -743,7 +746,8 @@ def check_zooms_without_tiles(folder):
     """A zoom without tiles is left out and noted, or kept by --all-zooms; gdaladdo makes its tiles."""
     standard_of(geotiff(folder, 1500, 1100), folder / "in.gpkg", "base")
     _, told = tool("import_standard.py", folder / "in.gpkg", folder / "one.csv")
-    note = "note: zoom 0 of base, zoom 1 of base, zoom 2 of base: it has no tiles and is left out; gdaladdo makes them, --all-zooms keeps it without"
+    note = "note: zoom 0 of base, zoom 1 of base, zoom 2 of base: it has no tiles and is left out; "
+    note += "gdaladdo makes them, --all-zooms keeps it without"
     assert note in told.splitlines(), told
     expect(matrices_of(folder / "one.csv"), [3], "zooms")
     tool("import_standard.py", folder / "in.gpkg", folder / "all.csv", "--all-zooms")
@@ -838,7 +842,8 @@ def check_nothing_is_written_over(folder):
     expect(told, "note: system 25832: FILE has it with other texts, and keeps them\n", "what is told with --replace")
     expect([line.split()[1] for line in commands.splitlines()], ["run", "kit", "publish,more"], "commands")
     _, told = tool("import_standard.py", folder / "in.gpkg", folder / "new.csv")
-    said = "next: FILE is one without the tables base, photos, spots; where it has some, --into FILE names it, and writes over nothing\n"
+    said = "next: FILE is one without the tables base, photos, spots; where it has some, --into FILE names it, "
+    said += "and writes over nothing\n"
     expect(told, said, "what is told where no package is named")
     tool("import_standard.py", folder / "in.gpkg", folder / "no.csv", "--replace", status=2)
     expect((folder / "list.csv").read_text(), "edition,more\n", "the list, where the layout stands")
@@ -1063,10 +1068,13 @@ ODD = {
 }
 # By the name of a file the rows that come in behind the command that its import tells.
 BROUGHT = {
-    "degrees": [["1", "Oak", "@25832:535460.445813/5594344.786006 old", "7"]], "no_system": [["1", "Oak", "@25832:535460.445813/5594344.786006 old", "7"]],
-    "lines": [["1", "Lane", "", "0"]], "nulls": [["1", "", "@25832:500001/5600001", "0"]], "south": [["1", "Oak", "@32760:290533.818405/5430475.829403 old", "7"]],
-    "several": [["1", "Oak", "@25832:1/2 old", "7"], ["2", "Oak", "@25832:3/4 old", "7"]], "table": [["1", "Ada", "", "0"]],
-    "stones": [["1", "S 1", "@25832:500000.5/5600000.25", "0"], ["2", "", "@25832:1/2", "0"]], "no_kind": [["1", "Oak", "old", "7"]],
+    "degrees": [["1", "Oak", "@25832:535460.445813/5594344.786006 old", "7"]],
+    "no_system": [["1", "Oak", "@25832:535460.445813/5594344.786006 old", "7"]],
+    "lines": [["1", "Lane", "", "0"]], "nulls": [["1", "", "@25832:500001/5600001", "0"]],
+    "south": [["1", "Oak", "@32760:290533.818405/5430475.829403 old", "7"]],
+    "several": [["1", "Oak", "@25832:1/2 old", "7"], ["2", "Oak", "@25832:3/4 old", "7"]],
+    "table": [["1", "Ada", "", "0"]], "no_kind": [["1", "Oak", "old", "7"]],
+    "stones": [["1", "S 1", "@25832:500000.5/5600000.25", "0"], ["2", "", "@25832:1/2", "0"]],
 }  # fmt: skip
 
 
@@ -1292,8 +1300,9 @@ def check_slips_are_said(folder):
     ), "how many there are"
 
 
-PLACES = [(1, "Spring", "@25832:500000.5/5600000.25 by the road", 3), (2, "Gate", "", 0), (3, "Oak", "@25832:-7/0.000001", -5),
-          (4, "Plan", "@7:10/20 of the plan", 0), (5, "Late", "seen @500100/5600100 by", 1), (6, "No", "@25832:1,5/2 @x/y a@1/2", 0),
+PLACES = [(1, "Spring", "@25832:500000.5/5600000.25 by the road", 3), (2, "Gate", "", 0),
+          (3, "Oak", "@25832:-7/0.000001", -5), (4, "Plan", "@7:10/20 of the plan", 0),
+          (5, "Late", "seen @500100/5600100 by", 1), (6, "No", "@25832:1,5/2 @x/y a@1/2", 0),
           (2**53, "Far", "@25832:999999999.999999/-999999999.999999 \"x\"\nüß", 10**15)]  # fmt: skip
 SLIPS = (
     "row 1 of spots, row 3 of spots, row 4 of spots, row 5 of spots, row 9007199254740992 of spots: its place is on no map",
@@ -1376,7 +1385,8 @@ def check_points_go_out_and_in(folder):
             for row in csv.DictReader(it)
         }
     expect(seen, {"Spring": (500000.5, 5600000.25, "by the road"), "Gate": ("", "", ""), "Oak": (-7, 0.000001, ""),
-                  "Plan": ("", "", "@7:10/20 of the plan"), "Well": ("", "", "by the road, north"), "Late": (500100, 5600100, "seen by"),
+                  "Plan": ("", "", "@7:10/20 of the plan"), "Well": ("", "", "by the road, north"),
+                  "Late": (500100, 5600100, "seen by"),
                   "No": ("", "", "@25832:1,5/2 @x/y a@1/2"),
                   "Far": (999999999.999999, -999999999.999999, '"x"\nüß')}, "points by GDAL")  # fmt: skip
     assert "ETRS89 / UTM zone 32N" in run("ogrinfo", "-so", folder / "out.gpkg", "spots")[0], "the layer's system"
@@ -1671,7 +1681,8 @@ def check_kits_of_many_tiles(folder):
         ["4096,tile,base,0,0,4095,base-0-0-4095.png", "1,tile,base,0,0,4096,base-0-0-4096.png"],
         "the last pieces",
     )
-    layout = f"pyramid,base,Base,-1,0,0,{64 * UNITS_PER_METRE},{64 * UNITS_PER_METRE * (KIT_PIECES + 1)},two\nmatrix,base,0,1,{KIT_PIECES + 1},64,64,{UNITS_PER_METRE},{UNITS_PER_METRE}\n"
+    layout = f"pyramid,base,Base,-1,0,0,{64 * UNITS_PER_METRE},{64 * UNITS_PER_METRE * (KIT_PIECES + 1)},two\n"
+    layout += f"matrix,base,0,1,{KIT_PIECES + 1},64,64,{UNITS_PER_METRE},{UNITS_PER_METRE}\n"
     new_package(folder / "a.mmpkg", layout + "edition,first\nedition,first_2\n")
     take_in("\n".join(commands.splitlines()[2:]), folder / "a.mmpkg", folder)
     expect(

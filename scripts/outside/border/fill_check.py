@@ -104,7 +104,8 @@ def expect_colours(out, places):
 def tiles_of(file, table):
     """By place, the bytes of the tiles of a pyramid."""
     with contextlib.closing(sqlite3.connect(f"file:{file}?mode=ro", uri=True)) as opened:
-        query = "SELECT zoom_level, tile_column, tile_row, data FROM mm_tiles JOIN mm_blobs b ON b.id = blob WHERE table_name = ?"
+        query = "SELECT zoom_level, tile_column, tile_row, data FROM mm_tiles JOIN mm_blobs b ON b.id = blob "
+        query += "WHERE table_name = ?"
         return {row[:3]: row[3] for row in opened.execute(query, (table,))}
 
 
@@ -358,8 +359,9 @@ def check_what_is_no_map(folder):
         f"{folder / 'other.mmpkg'}: is no package\n",
         "what is told of no package",
     )
-    code = f"import sys; sys.path.insert(0, {str(TOP / 'tools')!r}); import gdal_python, border\ngdal_python.MODULES = 'none'\n"
-    code += "gdal_python.importlib.util.find_spec = lambda _: None\nborder.run_tool(gdal_python.go_on_with_gdal)"
+    code = f"import sys; sys.path.insert(0, {str(TOP / 'tools')!r}); import gdal_python, border\n"
+    code += "gdal_python.MODULES = 'none'\ngdal_python.importlib.util.find_spec = lambda _: None\n"
+    code += "border.run_tool(gdal_python.go_on_with_gdal)"
     expect(
         run(sys.executable, "-B", "-c", code, status=2)[1],
         "GDAL's modules for Python aren't there: apt-get install python3-gdal\n",

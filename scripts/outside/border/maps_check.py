@@ -389,7 +389,8 @@ def check_the_program(folder):
     picture = geotiff(folder, 300, 200)
     (folder / "notes.txt").write_text("ten bytes\n")
     words = [sys.executable, "-B", TOP / "tools" / "maps.py", ORIGIN, picture, folder / "notes.txt"]
-    began = f"import subprocess, sys, time; subprocess.Popen(sys.argv[1:], stdin=subprocess.PIPE); time.sleep({2 * PATIENCE})"
+    began = "import subprocess, sys, time; subprocess.Popen(sys.argv[1:], stdin=subprocess.PIPE); "
+    began += f"time.sleep({2 * PATIENCE})"
     with subprocess.Popen([sys.executable, "-c", began, *words], stdout=subprocess.PIPE) as parent:
         said = [parent.stdout.readline().decode().strip() for _ in range(3)]
         assert said[1].startswith("notes.txt: GDAL opens no map of it") and said[2] == "ready", said
@@ -428,9 +429,8 @@ def check_a_part_that_nobody_wants(_):
         until(lambda: len(slow.begun) == workers, "the parts are begun")
         gone = [socket.create_connection(("127.0.0.1", served.server.server_port)) for _ in range(5)]
         for number, it in enumerate(gone):
-            it.sendall(
-                f"GET /{served.server.token}/{part(0, 25832, -256 * (number + 1), 0, 1)} HTTP/1.1\r\nHost: 127.0.0.1:{served.server.server_port}\r\n\r\n".encode()
-            )
+            path = f"/{served.server.token}/{part(0, 25832, -256 * (number + 1), 0, 1)}"
+            it.sendall(f"GET {path} HTTP/1.1\r\nHost: 127.0.0.1:{served.server.server_port}\r\n\r\n".encode())
         until(lambda: served.server.maps.threads._work_queue.qsize() == len(gone), "they wait for their turn")
         for it in gone:
             it.close()

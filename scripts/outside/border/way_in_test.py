@@ -77,8 +77,9 @@ class NoteWords(unittest.TestCase):
 
     def test_types_change_no_letter(self):
         for values, sort in (
-            (["1", "-5", "0"], "INTEGER"), (["007"], "TEXT"), (["1.5", "2"], "REAL"), (["1.50"], "TEXT"), (["-0"], "TEXT"),
-            (["0.1", "12.0"], "REAL"), (["1,5"], "TEXT"), (["1e5"], "TEXT"), (["9" * 19], "TEXT"), (["0.30000000000000004"], "TEXT"),
+            (["1", "-5", "0"], "INTEGER"), (["007"], "TEXT"), (["1.5", "2"], "REAL"), (["1.50"], "TEXT"),
+            (["-0"], "TEXT"), (["0.1", "12.0"], "REAL"), (["1,5"], "TEXT"), (["1e5"], "TEXT"), (["9" * 19], "TEXT"),
+            (["0.30000000000000004"], "TEXT"),
         ):  # fmt: skip
             self.assertEqual(note_words.type_of(values), sort, values)
 

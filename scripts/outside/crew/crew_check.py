@@ -462,7 +462,8 @@ def check_what_can_not_be_opened():
         notes = file.parent / "notes.mmpkg"
         notes.write_text("x" * 1000)
         none = file.parent / "none.mmpkg"
-        for words, line, status in (([none], "none.mmpkg: isn't there; 'mmpkg init", 4), ([notes], "notes.mmpkg: fault 91", 3),
+        for words, line, status in (([none], "none.mmpkg: isn't there; 'mmpkg init", 4),
+                                    ([notes], "notes.mmpkg: fault 91", 3),
                                     ([file, "--port", "0"], "argument --port", 2),
                                     ([file, "--table", "gpkg_x"], "is no name of a package", 2)):  # fmt: skip
             _, told = run(sys.executable, "-B", TOOL, *words, status=status)

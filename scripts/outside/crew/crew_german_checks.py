@@ -1,4 +1,5 @@
-"""The page in German, for a crew whose browser reads that. Its checks are run by scripts/outside/crew/crew_page_check.py."""
+"""The page in German, for a crew whose browser reads that. Its checks are run by
+scripts/outside/crew/crew_page_check.py."""
 
 import contextlib
 import re

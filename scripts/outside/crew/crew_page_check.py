@@ -283,8 +283,8 @@ def check_search_and_order(scene):
     expect((crew.rows(), crew.text("count")), ([], "0 of 12 rows"), "found")
     crew.write("search", "")
     crew.value("map.setView([5600360, 500420], 1, { animate: false }); 0")
-    for order, first in (("oldest", ["Stone 1", "Stone 2"]), ("title", ["Stone 1", "Stone 2"]), ("amount", ["Stone 12", "Stone 11"]),
-                         ("near", ["Stone 6", "Stone 5"]), ("newest", ["Stone 12", "Stone 11"])):  # fmt: skip
+    for order, first in (("oldest", ["Stone 1", "Stone 2"]), ("title", ["Stone 1", "Stone 2"]),
+                         ("amount", ["Stone 12", "Stone 11"]), ("near", ["Stone 6", "Stone 5"]), ("newest", ["Stone 12", "Stone 11"])):  # fmt: skip
         crew.value(f"byId('order').value = '{order}'; byId('order').dispatchEvent(new Event('change')); 0")
         expect(crew.rows()[:2], first, order)
     expect_quiet(crew)
@@ -297,8 +297,10 @@ def check_words_for_what_is_no_row(scene):
     place = "placeIn(noteOf({ system: -1, east: '500.5', north: '-6' }, 'oak'))"
     expect(crew.value(place), {"system": -1, "east": "500.5", "north": "-6", "rest": "oak"}, "a place of a plan")
     crew.press("fresh")
-    for fields, words in (({"amount": "1.5"}, "whole number"), ({"amount": "007"}, "whole number"), ({"amount": "1000000000000001"}, "whole number"),
-                          ({"amount": "1", "title": "é" * 501}, "title has more"), ({"title": "x", "note": "n" * 1001}, "note, with the place"),
+    for fields, words in (({"amount": "1.5"}, "whole number"), ({"amount": "007"}, "whole number"),
+                          ({"amount": "1000000000000001"}, "whole number"),
+                          ({"amount": "1", "title": "é" * 501}, "title has more"),
+                          ({"title": "x", "note": "n" * 1001}, "note, with the place"),
                           ({"note": "", "east": "12"}, "East and north"), ({"north": "1e5"}, "East and north"),
                           ({"north": "5.1234567"}, "East and north")):  # fmt: skip
         for element, text in fields.items():

@@ -60,9 +60,11 @@ class Parcels:
         self.asked.append((*box, pixel, column))
         west, south, east, north = self.box
         corners = [(x, y) for x in range(west, east, 100) for y in range(south, north, 100)]
+        names = {(x, y): f"{column} {x // 100 % 1000}/{y // 100 % 1000}" if column else "" for x, y in corners}
         return {"type": "FeatureCollection", "more": len(corners) > 3000, "features": [
-            {"type": "Feature", "properties": {"name": f"{column} {x // 100 % 1000}/{y // 100 % 1000}" if column else ""},
-             "geometry": {"type": "Polygon", "coordinates": [[[x, y], [x + 90, y], [x + 90, y + 90], [x, y + 90], [x, y]]]}}
+            {"type": "Feature", "properties": {"name": names[x, y]}, "geometry": {
+                "type": "Polygon",
+                "coordinates": [[[x, y], [x + 90, y], [x + 90, y + 90], [x, y + 90], [x, y]]]}}
             for x, y in corners if x < box[2] and x + 100 > box[0] and y < box[3] and y + 100 > box[1]]}  # fmt: skip
 
 

@@ -1,6 +1,6 @@
 #!/usr/bin/python3
-"""The day of two crews at the page (examples/field_day/by_page.sh): an office's map by GDAL, two crews whose program and
-browser are killed again and again, the work that comes home, and GDAL that finds each row at its place.
+"""The day of two crews at the page (examples/field_day/by_page.sh): an office's map by GDAL, two crews whose program
+and browser are killed again and again, the work that comes home, and GDAL that finds each row at its place.
 
     apt-get install gdal-bin libjs-leaflet chromium curl python3-pil
     scripts/outside/days/crew_day_check.py [PROGRAM]

@@ -1,6 +1,6 @@
 #!/usr/bin/python3
-"""The day of two crews (examples/field_day/run.sh): an office's map by GDAL, two crews whose program is killed again and
-again, the work that comes home, and GDAL and a browser that see it.
+"""The day of two crews (examples/field_day/run.sh): an office's map by GDAL, two crews whose program is killed again
+and again, the work that comes home, and GDAL and a browser that see it.
 
     apt-get install gdal-bin libjs-leaflet chromium python3-pil
     scripts/outside/days/field_day_check.py [PROGRAM]
@@ -24,7 +24,8 @@ from browsers import LEAFLET  # noqa: E402
 
 EXAMPLE = TOP / "examples" / "field_day"
 GDAL = (
-    "gdal_translate", "gdaladdo", "gdal_contour", "gdaldem", "gdalinfo", "gdallocationinfo", "gdal_rasterize", "ogrinfo",
+    "gdal_translate", "gdaladdo", "gdal_contour", "gdaldem", "gdalinfo", "gdallocationinfo", "gdal_rasterize",
+    "ogrinfo",
 )  # fmt: skip
 MOST_SECONDS = "900"
 # By a crew, the colour of the area that it draws.

@@ -1,6 +1,6 @@
 #!/usr/bin/python3
-"""Asks the desk over sockets and by curl, which share no code with this repository: the worked requests, bodies that are
-large, cut or slow, clients that vanish, kills, keys.
+"""Asks the desk over sockets and by curl, which share no code with this repository: the worked requests, bodies that
+are large, cut or slow, clients that vanish, kills, keys.
 
     apt-get install curl
     scripts/outside/desk/desk_check.py [PROGRAM] [WORD ..]
@@ -637,8 +637,9 @@ def check_bound_on_this_machine_alone():
     """The port is bound on 127.0.0.1 alone."""
     with desk() as it:
         wanted = f"{it.port:04X}"
-        bound = [line.split()[1] for name in ("tcp", "tcp6") for line in pathlib.Path("/proc/net", name).read_text().splitlines()[1:]
-                 if line.split()[3] == "0A" and line.split()[1].endswith(":" + wanted)]  # fmt: skip
+        tables = [pathlib.Path("/proc/net", name).read_text().splitlines()[1:] for name in ("tcp", "tcp6")]
+        sockets = [line.split() for lines in tables for line in lines]
+        bound = [it[1] for it in sockets if it[3] == "0A" and it[1].endswith(":" + wanted)]
         expect(bound, [f"0100007F:{wanted}"], "what is bound")
         it.end()
 

@@ -1,6 +1,7 @@
 #!/usr/bin/env bash
-# Serves a package by the built program and asks it by curl, which shares no code with this repository: each route, what is not
-# found, and another method; the port has to be bound on the loopback address alone. Compares status, headers and body with what stands below, prints the differences, and fails then.
+# Serves a package by the built program and asks it by curl, which shares no code with this repository: each route, what
+# is not found, and another method; the port has to be bound on the loopback address alone. Compares status, headers and
+# body with what stands below, prints the differences, and fails then.
 #
 #     scripts/build.sh
 #     scripts/outside/desk/page_curl.sh [PORT]
@@ -56,7 +57,8 @@ done
 failures=0
 # The port is bound on the loopback address alone, by the system's own tables of sockets that listen.
 hex_port=$(printf '%04X' "$port")
-bound=$(cat /proc/net/tcp /proc/net/tcp6 2>/dev/null | awk -v port=":$hex_port" '$4 == "0A" && substr($2, length($2) - 4) == port {print $2}')
+bound=$(cat /proc/net/tcp /proc/net/tcp6 2>/dev/null |
+    awk -v port=":$hex_port" '$4 == "0A" && substr($2, length($2) - 4) == port {print $2}')
 if [ "$bound" != "0100007F:$hex_port" ]; then
     printf 'bound on\n%s\n  and not on 127.0.0.1 alone\n' "$bound"
     failures=$((failures + 1))

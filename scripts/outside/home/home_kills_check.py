@@ -48,7 +48,8 @@ session.Session.ask = ask
 AT_A_STEP = """
 import os, shutil, signal, sys
 homecoming.KIT_PIECES, left, inside = 3, [{at}], [False]
-STEPS = "os.mkdir", "os.link", "os.rename", "os.remove", "os.rmdir", "shutil.copyfile", "shutil.rmtree", "subprocess.Popen", "open"
+STEPS = ("os.mkdir", "os.link", "os.rename", "os.remove", "os.rmdir", "shutil.copyfile", "shutil.rmtree",
+         "subprocess.Popen", "open")
 
 def is_there(path):
     path = os.fsdecode(path) if isinstance(path, (str, bytes, os.PathLike)) else "/"

@@ -39,8 +39,9 @@ MOST_PIECES = 4096
 
 # How often a change has each word; few names, numbers and bytes, so that two who change one package often meet.
 CHANGES = {
-    "srs": 2, "pyramid": 2, "matrix": 5, "table": 3, "drop": 1, "tile": 8, "tile-drop": 2, "row": 6, "row-drop": 2, "media": 5,
-    "media-drop": 2, "relation": 3, "relation-drop": 1, "map": 5, "map-drop": 2, "edition": 1, "stage": 2, "publish": 1, "remake": 2,
+    "srs": 2, "pyramid": 2, "matrix": 5, "table": 3, "drop": 1, "tile": 8, "tile-drop": 2, "row": 6, "row-drop": 2,
+    "media": 5, "media-drop": 2, "relation": 3, "relation-drop": 1, "map": 5, "map-drop": 2, "edition": 1, "stage": 2,
+    "publish": 1, "remake": 2,
 }  # fmt: skip
 NAMES = "a", "b", "c", "d", "e", "f", "g", "h"
 IDENTIFIERS = "One", 'Two, "2"', "Drei", "Vier ü", "Five", "Six", "Seven"
@@ -593,9 +594,11 @@ def check_each_conflict(folder, _):
     assert "there already: 1 row\n" in told, told
 
 
-CREWS = "table,spots,attributes,Spots\ntable,photos,media,Photos\nrelation,spots_photos,spots,photos,media\nrow,spots,3,Well,,1\n"
+CREWS = "table,spots,attributes,Spots\ntable,photos,media,Photos\nrelation,spots_photos,spots,photos,media\n"
+CREWS += "row,spots,3,Well,,1\n"
 CREW_A = "row,spots,4,Oak,,1\nmedia,photos,2,image/png,89504e47\nmap,spots_photos,4,2\n"
-CREW_B = "row,spots,4,Gate,,2\nmedia,photos,2,image/jpeg,ffd8ff\nmap,spots_photos,4,2\nrow,spots,5,Fence,,1\nrow,spots,3,Well,dry,1\n"
+CREW_B = "row,spots,4,Gate,,2\nmedia,photos,2,image/jpeg,ffd8ff\nmap,spots_photos,4,2\n"
+CREW_B += "row,spots,5,Fence,,1\nrow,spots,3,Well,dry,1\n"
 
 
 def two_crews(folder):
@@ -791,10 +794,11 @@ def check_system_that_changed(folder, _):
 
 def check_identifiers_that_swap(folder, _):
     """Two tables take each other's identifiers, and a name passes from a table to a relation and back."""
-    layout = "table,a,attributes,One\ntable,b,media,Two\nrow,a,1,x,,1\nmedia,b,1,a/b,00\nrelation,m,a,b,media\nmap,m,1,1\ntable,t,attributes,T\n"
+    layout = "table,a,attributes,One\ntable,b,media,Two\nrow,a,1,x,,1\nmedia,b,1,a/b,00\nrelation,m,a,b,media\n"
+    layout += "map,m,1,1\ntable,t,attributes,T\n"
     swapped = (
-        "relation-drop,m\ndrop,a\ndrop,b\ndrop,t\ntable,a,attributes,Two\ntable,b,media,One\nrow,a,1,x,,1\nmedia,b,1,a/b,00\n"
-        "relation,t,a,b,media\nmap,t,1,1\ntable,m,attributes,T\n"
+        "relation-drop,m\ndrop,a\ndrop,b\ndrop,t\ntable,a,attributes,Two\ntable,b,media,One\nrow,a,1,x,,1\n"
+        "media,b,1,a/b,00\nrelation,t,a,b,media\nmap,t,1,1\ntable,m,attributes,T\n"
     )
     before = by_hand(new_package(folder / "before.mmpkg"), layout)
     after = by_hand(before.copy(folder / "after.mmpkg"), swapped)

@@ -6,9 +6,9 @@ Its keys, mouse, fingers and files, what its profile keeps, and the crew's page:
     apt-get install chromium firefox-esr libjs-leaflet
     scripts/outside/lib/browsers_check.py [PROGRAM] [--browser chromium | firefox-esr] [WORD ..]
 
-Without --browser each one that this machine has. WORD picks the checks whose names have it. The last line is
-'N passed, M failed'. Exit status: 0 all passed, 1 something failed, 2 the program isn't there, 77 the browser or Leaflet
-isn't there.
+Without --browser each one that this machine has. WORD picks the checks whose names have it. The last line is 'N passed,
+M failed'. Exit status: 0 all passed, 1 something failed, 2 the program isn't there, 77 the browser or Leaflet isn't
+there.
 """
 
 import argparse

@@ -71,8 +71,8 @@ def want(words, *needs, program=True):
 
 
 def words_given(about, browser=False, **numbers):
-    """What the words of a check say: WORD .., by which it picks among its checks; numbers, by their names with what they
-    are where nothing is said; and where it wants a browser, which, and where its screenshots are kept."""
+    """What the words of a check say: WORD .., by which it picks among its checks; numbers, by their names with what
+    they are where nothing is said; and where it wants a browser, which, and where its screenshots are kept."""
     parser = argparse.ArgumentParser(description=about, formatter_class=argparse.RawDescriptionHelpFormatter)
     for name, number in numbers.items():
         parser.add_argument(f"--{name}", type=int, default=number)

@@ -1,4 +1,5 @@
-"""The page of 'mmpkg desk' as a crew uses it: its forms by mouse and keys in a browser of scripts/outside/lib/browsers.py.
+"""The page of 'mmpkg desk' as a crew uses it: its forms by mouse and keys in a browser of
+scripts/outside/lib/browsers.py.
 
 A Seat is a package whose desk is killed and started again at one port; a Crew is a page of it.
 """
@@ -92,8 +93,9 @@ class Crew:
         self.wait_for_rows()
 
     def wait_for_rows(self):
-        there = "document.readyState === 'complete' && typeof byId === 'function' && outbox.store !== null && byId('count').innerText !== ''"
-        self.page.wait(f"!window.wasBefore && {there}")
+        loaded = "document.readyState === 'complete' && typeof byId === 'function'"
+        shown = "outbox.store !== null && byId('count').innerText !== ''"
+        self.page.wait(f"!window.wasBefore && {loaded} && {shown}")
 
     def reload(self):
         """Loads the page again, once what is kept of a form is on the disk: a page that goes takes back what isn't."""

@@ -1,6 +1,6 @@
-# Read by the scripts of the shell that run the built program: sets `top`, the repository, and exports MMPKG, the program.
-# It is the one that the word names, or else the environment's MMPKG, or else out/mmpkg, or else the one that the gate
-# left, as checks.py finds it too. Ends with 2 where it isn't there.
+# Read by the scripts of the shell that run the built program: sets `top`, the repository, and exports MMPKG, the
+# program. It is the one that the word names, or else the environment's MMPKG, or else out/mmpkg, or else the one that
+# the gate left, as checks.py finds it too. Ends with 2 where it isn't there.
 # shellcheck shell=bash
 top=$(cd "$(dirname "${BASH_SOURCE[0]}")/../../.." && pwd)
 built=$top/out/mmpkg

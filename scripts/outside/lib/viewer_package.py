@@ -1,5 +1,5 @@
-"""The package that scripts/outside/viewer/viewer_check.py looks at: four pyramids whose tiles' colours follow from their
-places, rows and media."""
+"""The package that scripts/outside/viewer/viewer_check.py looks at: four pyramids whose tiles' colours follow from
+their places, rows and media."""
 
 import contextlib
 import dataclasses

@@ -1,6 +1,6 @@
 #!/usr/bin/env bash
-# The core of the crew's page (tools/page/*.mjs) without a browser, by Node's own runner: what it reckons, and random days
-# of its outbox against a package whose answers are cut, and to which others write.
+# The core of the crew's page (tools/page/*.mjs) without a browser, by Node's own runner: what it reckons, and random
+# days of its outbox against a package whose answers are cut, and to which others write.
 #
 #     apt-get install nodejs
 #     [DAYS=20000] [SEED=1] scripts/outside/page/page_core.sh

@@ -14,9 +14,11 @@ behind it
     ~ LEAST MOST         how many seconds it takes
     <- TEXT, >- TEXT     the same without the end of the line
     <!                   the input fails behind what is given, and has no end: it is a terminal that goes away
-    <1..9 TEXT           a line for each number from 1 to 9, which is \# in it (>1..9 TEXT too, and >-1..9 TEXT without their ends)
-    @ open, @ shut       a connection to the port while the program runs: '<' is sent and '>' must come back before it is closed;
-                         'shut' ends what is sent. All connections are made and sent to before the first is read.
+    <1..9 TEXT           a line for each number from 1 to 9, which is \# in it (>1..9 TEXT too, and >-1..9 TEXT without
+                         their ends)
+    @ open, @ shut       a connection to the port while the program runs: '<' is sent and '>' must come back before it
+                         is closed; 'shut' ends what is sent. All connections are made and sent to before the first is
+                         read.
     @ drop, @ hold       one that is cut off as soon as '>' has come, with the rest unread; one of which nothing is read
 
 Words that end in '< FILE', '> FILE' or '2> FILE' take the input from that file, or have the output or standard error go
@@ -25,15 +27,16 @@ there. The other steps are
     ! steps FILE         the steps of a file that lies beside the transcript
     ! write FILE         makes a file of the lines '<' that follow
     ! cut FROM TO SIZE   makes a file of the first SIZE bytes of another, or of a part of it, as 1/2
-    ! sql FILE STATEMENT runs a statement by Python's sqlite3; '>' are the rows that it gives, with bars between the values;
-                         sha256(DATA) is the digest of bytes, as a blob has it
+    ! sql FILE STATEMENT runs a statement by Python's sqlite3; '>' are the rows that it gives, with bars between the
+                         values; sha256(DATA) is the digest of bytes, as a blob has it
     ! older FILE         puts a package back to profile 1, as scripts/outside/program/make_profile_1.py does
     ! same FILE          the file is byte for byte as it was before the last run of the program
     ! missing FILE       there is no such file
     ! folder NAME        makes a folder
     ! link NAME TARGET   makes a link to a file or a folder, which need not be there
     ! remove NAME        removes a file or an empty folder
-    ! limit WHAT SIZE    from here on the program may have so many bytes of 'memory', or make no file longer ('files'); without SIZE any
+    ! limit WHAT SIZE    from here on the program may have so many bytes of 'memory', or make no file longer ('files');
+                         without SIZE any
     ! listen             the port is taken, by a listener of this script's own
 
 In all lines \xHH is a byte, \x00..\xff all bytes from one to another, \5{TEXT} is TEXT five times, and {port} the port,

@@ -1,8 +1,8 @@
 #!/usr/bin/env bash
-# The moment of a run that names none, by a machine whose clock shows what this script says: a library in front of the C library's
-# answers `clock_gettime`. A moment at the ends of the limits becomes the last_change; one outside them is `refused 11`, and a clock that
-# can't be read is `fault 96`, both before the file is asked for, and behind the name of a kit's edition. Where a moment is given the clock
-# makes no difference.
+# The moment of a run that names none, by a machine whose clock shows what this script says: a library in front of the C
+# library's answers `clock_gettime`. A moment at the ends of the limits becomes the last_change; one outside them is
+# `refused 11`, and a clock that can't be read is `fault 96`, both before the file is asked for, and behind the name of
+# a kit's edition. Where a moment is given the clock makes no difference.
 #
 #     scripts/outside/program/clock.sh [PROGRAM]
 set -eu -o pipefail
@@ -38,7 +38,7 @@ cc -shared -fPIC -o clock.so clock.c
 
 # Runs a table's record on a new package by a clock: WANTED STATUS LAST_CHANGE SETTING.. [--at MOMENT]
 run() {
-    local wanted=$1 status=$2 change=$3 settings=() said got=0
+    local wanted=$1 status=$2 change=$3 settings=() said stands got=0
     shift 3
     while [ $# -gt 0 ] && [ "$1" != --at ]; do
         settings+=("$1")
@@ -47,16 +47,20 @@ run() {
     rm -f a.mmpkg a.mmpkg-wal
     "$program" init a.mmpkg
     cp a.mmpkg before.mmpkg
-    said=$(echo table,spots,attributes,Spots | env "${settings[@]}" LD_PRELOAD="$folder/clock.so" "$program" run a.mmpkg "$@") || got=$?
+    said=$(echo table,spots,attributes,Spots |
+        env "${settings[@]}" LD_PRELOAD="$folder/clock.so" "$program" run a.mmpkg "$@") || got=$?
     if [ "$said" != "$wanted" ] || [ "$got" != "$status" ]; then
         echo "${settings[*]} $*: '$said', status $got; wanted '$wanted', status $status"
         exit 1
     fi
     if [ "$change" = same ]; then
         cmp a.mmpkg before.mmpkg
-    elif [ "$(sqlite3 a.mmpkg 'SELECT last_change FROM gpkg_contents')" != "$change" ]; then
-        echo "${settings[*]} $*: the last_change is $(sqlite3 a.mmpkg 'SELECT last_change FROM gpkg_contents'); wanted $change"
-        exit 1
+    else
+        stands=$(sqlite3 a.mmpkg 'SELECT last_change FROM gpkg_contents')
+        if [ "$stands" != "$change" ]; then
+            echo "${settings[*]} $*: the last_change is $stands; wanted $change"
+            exit 1
+        fi
     fi
 }
 
@@ -106,7 +110,9 @@ done
 curl -s -o answer "${address}contents" || true
 wait "$!" && got=0 || got=$?
 if [ "$(tail -n 1 said)" != 'page fault 96' ] || [ -s answer ] || [ "$got" != 0 ]; then
-    echo "a desk whose clock is outside: '$(tail -n 1 said)', status $got; wanted 'page fault 96', status 0, and no answer"
+    echo "a desk whose clock is outside: '$(tail -n 1 said)', status $got;" \
+        "wanted 'page fault 96', status 0, and no answer"
     exit 1
 fi
-echo "three moments, two outside the limits, a clock that can't be read, a moment that is given, what is asked before the clock and behind it, and a desk"
+echo "three moments, two outside the limits, a clock that can't be read, a moment that is given," \
+    "what is asked before the clock and behind it, and a desk"

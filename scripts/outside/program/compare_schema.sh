@@ -1,7 +1,7 @@
 #!/usr/bin/env bash
-# Opens a package file with the system's sqlite3, which shares no code with this repository, and compares it with the tables,
-# keys, indexes and given rows of the profile, as the lists below write them, and its blobs with their form. Prints the
-# differences, if any, and fails then.
+# Opens a package file with the system's sqlite3, which shares no code with this repository, and compares it with the
+# tables, keys, indexes and given rows of the profile, as the lists below write them, and its blobs with their form.
+# Prints the differences, if any, and fails then.
 #
 #     scripts/outside/program/compare_schema.sh FILE
 set -eu -o pipefail
@@ -97,32 +97,40 @@ compare "integrity_check" "ok" "$(ask 'PRAGMA integrity_check')"
 compare "foreign_key_check" "" "$(ask 'PRAGMA foreign_key_check')"
 compare "tables" "$(tables)" "$(ask "
     SELECT t.name || ' ('
-        || (SELECT group_concat(c.name || ' ' || c.type || iif(c.\"notnull\", '', '?') || iif(c.pk, ' P' || c.pk, ''), ', ')
+        || (SELECT group_concat(c.name || ' ' || c.type || iif(c.\"notnull\", '', '?')
+                || iif(c.pk, ' P' || c.pk, ''), ', ')
             FROM (SELECT * FROM pragma_table_info(t.name) ORDER BY cid) c)
         || ')' || iif(t.strict, ' strict', '')
     FROM pragma_table_list t WHERE t.schema = 'main' AND t.name NOT LIKE 'sqlite\\_%' ESCAPE '\\'")"
 compare "unique keys" "$(uniques)" "$(ask "
-    SELECT t.name || ' unique (' || (SELECT group_concat(i.name, ', ') FROM (SELECT * FROM pragma_index_info(k.name) ORDER BY seqno) i) || ')'
+    SELECT t.name || ' unique ('
+        || (SELECT group_concat(i.name, ', ') FROM (SELECT * FROM pragma_index_info(k.name) ORDER BY seqno) i) || ')'
     FROM pragma_table_list t, pragma_index_list(t.name) k
     WHERE t.schema = 'main' AND t.name NOT LIKE 'sqlite\\_%' ESCAPE '\\' AND k.origin <> 'pk' AND k.\"unique\"")"
 compare "indexes" "$(indexes)" "$(ask "
-    SELECT t.name || ' (' || (SELECT group_concat(i.name, ', ') FROM (SELECT * FROM pragma_index_info(k.name) ORDER BY seqno) i) || ')'
+    SELECT t.name || ' ('
+        || (SELECT group_concat(i.name, ', ') FROM (SELECT * FROM pragma_index_info(k.name) ORDER BY seqno) i) || ')'
     FROM pragma_table_list t, pragma_index_list(t.name) k
     WHERE t.schema = 'main' AND t.name NOT LIKE 'sqlite\\_%' ESCAPE '\\' AND NOT k.\"unique\"")"
 compare "foreign keys" "$(references)" "$(ask "
-    SELECT name || ' (' || group_concat(\"from\", ', ') || ') to ' || parent || ' (' || group_concat(\"to\", ', ') || ') on delete ' || on_delete
+    SELECT name || ' (' || group_concat(\"from\", ', ') || ') to ' || parent
+        || ' (' || group_concat(\"to\", ', ') || ') on delete ' || on_delete
         || iif(on_update = 'NO ACTION', '', ' on update ' || on_update)
     FROM (SELECT t.name, f.id, f.seq, f.\"from\", f.\"table\" AS parent, f.\"to\", f.on_delete, f.on_update
-        FROM pragma_table_list t, pragma_foreign_key_list(t.name) f WHERE t.schema = 'main' ORDER BY t.name, f.id, f.seq)
+        FROM pragma_table_list t, pragma_foreign_key_list(t.name) f WHERE t.schema = 'main'
+        ORDER BY t.name, f.id, f.seq)
     GROUP BY name, id")"
 compare "given rows" "$(given_rows)" "$(ask "
-    SELECT srs_id, srs_name, organization, organization_coordsys_id, definition, description FROM gpkg_spatial_ref_sys WHERE srs_id IN (4326, -1, 0);
+    SELECT srs_id, srs_name, organization, organization_coordsys_id, definition, description
+        FROM gpkg_spatial_ref_sys WHERE srs_id IN (4326, -1, 0);
     SELECT id, version FROM mm_profile;
-    SELECT table_name, column_name, extension_name, definition, scope FROM gpkg_extensions WHERE table_name = 'gpkgext_relations'")"
+    SELECT table_name, column_name, extension_name, definition, scope
+        FROM gpkg_extensions WHERE table_name = 'gpkgext_relations'")"
 
 compare "blobs that nothing names, are empty or hold the bytes of another" "" "$(ask "
     SELECT b.id FROM mm_blobs b
-    WHERE b.id NOT IN (SELECT blob FROM mm_tiles UNION SELECT blob FROM mm_media UNION SELECT blob FROM mm_pieces WHERE blob IS NOT NULL)
+    WHERE b.id NOT IN (SELECT blob FROM mm_tiles UNION SELECT blob FROM mm_media
+            UNION SELECT blob FROM mm_pieces WHERE blob IS NOT NULL)
         OR length(b.data) = 0 OR EXISTS (SELECT 1 FROM mm_blobs o WHERE o.id <> b.id AND o.data = b.data)")"
 while IFS='|' read -r digest data; do
     compare "digest of a blob" "$(xxd -r -p <<<"$data" | sha256sum | cut -d ' ' -f 1)" "$digest"

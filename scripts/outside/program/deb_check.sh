@@ -4,10 +4,10 @@
 #
 #     scripts/outside/program/deb_check.sh [PROGRAM]
 #
-# The fresh Debian (bookworm, minbase, with python3, libjs-leaflet and curl) is made by debootstrap, which takes a minute
-# or two, and kept packed in a folder of the system's for such files, so that the next look takes seconds. Exit status: 0
-# all passed, 1 something failed, 2 the program isn't there, 77 it can't be made, and nothing was tried: that wants root,
-# Debian's dpkg-dev, lintian and debootstrap, and its servers.
+# The fresh Debian (bookworm, minbase, with python3, libjs-leaflet and curl) is made by debootstrap, which takes a
+# minute or two, and kept packed in a folder of the system's for such files, so that the next look takes seconds. Exit
+# status: 0 all passed, 1 something failed, 2 the program isn't there, 77 it can't be made, and nothing was tried: that
+# wants root, Debian's dpkg-dev, lintian and debootstrap, and its servers.
 set -u -o pipefail
 
 # shellcheck source=scripts/outside/lib/program.sh

@@ -25,7 +25,8 @@ from images import picture  # noqa: E402
 
 EXAMPLE = "/usr/share/doc/mmpkg/examples/crew.csv"
 # How many marks are where the tap was, within a pixel or two.
-MARKS = "[...marked.values()].map(it => it.mark.getLatLng()).filter(it => Math.hypot(it.lng - 500500, it.lat - 5600400) < 9).length"
+MARKS = """[...marked.values()].map(it => it.mark.getLatLng())
+  .filter(it => Math.hypot(it.lng - 500500, it.lat - 5600400) < 9).length"""
 
 
 def main(root):

@@ -7,9 +7,9 @@ boots again, the file system replays, and `mmpkg check` is `package ok`.
 
 Each cut has a list of its own; the answers that came before it are those of a model in plain Python, and the tables of
 the file are those of the model's package behind the last answered command, or behind the one after it. Without --cuts
-there are ten: seven on ext4, three on vfat. The kernel is Debian's, taken out of its package and not installed. The last
-line is 'N passed, M failed'. Exit status: 0 all passed, 1 something failed, 2 the program isn't there, 77 qemu or the
-kernel can't be had.
+there are ten: seven on ext4, three on vfat. The kernel is Debian's, taken out of its package and not installed. The
+last line is 'N passed, M failed'. Exit status: 0 all passed, 1 something failed, 2 the program isn't there, 77 qemu or
+the kernel can't be had.
 """
 
 import itertools
@@ -149,7 +149,8 @@ class Machine:
     def begin(self, what, length=0):
         """Boots the machine."""
         options = "-o,data=ordered" if self.system == "ext4" else "-o,iocharset=ascii"
-        words = f"console=ttyS0 quiet loglevel=1 edd=off panic=-1 mm_system={self.system} mm_do={what} mm_length={length} mm_at={MOMENT}"
+        words = "console=ttyS0 quiet loglevel=1 edd=off panic=-1 "
+        words += f"mm_system={self.system} mm_do={what} mm_length={length} mm_at={MOMENT}"
         return subprocess.Popen(
             [
                 "qemu-system-x86_64",

@@ -113,7 +113,8 @@ rehearse,k
 # Lines that are no records of commands, and two that are.
 UNREADABLE = b'srs,5001,A,NONE,1,undefined,\nsrs,007,B,NONE,1,undefined,\n\xff\xfe,1\nedition,a\nedition,"a'
 KIT = {
-    "kit.csv": b"1,tile,base,1,0,0,a.bin\n2,tile,base,1,1,0,b.bin\n3,row,spots,8,Gate,,0\n4,media,photos,4,image/png,c.bin\n5,map,spot_photos,8,4\n",
+    "kit.csv": b"1,tile,base,1,0,0,a.bin\n2,tile,base,1,1,0,b.bin\n3,row,spots,8,Gate,,0\n"
+    b"4,media,photos,4,image/png,c.bin\n5,map,spot_photos,8,4\n",
     "a.bin": b"\x01",
     "b.bin": b"\x02",
     "c.bin": b"\x03",
@@ -383,7 +384,8 @@ def main():
             tried += math.ceil(count / stride)
             print(f"{case.name}: {count} growths, each {stride}-th refused", flush=True)
     print(
-        f"{tried} growths refused in {len(all_cases)} cases: each was answered as with ample memory or by 90, and no acknowledged command is lost"
+        f"{tried} growths refused in {len(all_cases)} cases: each was answered as with ample memory or by 90, and no "
+        "acknowledged command is lost"
     )
 
 

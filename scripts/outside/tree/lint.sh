@@ -1,7 +1,7 @@
 #!/usr/bin/env bash
-# What the linters say of whatever here isn't Rattle: shellcheck of the shell scripts, pyflakes of the Python ones, eslint
-# of the page's script as it is joined, of what its modules take of each other and of its core's tests, tsc of the types
-# that the core's comments tell. Each word of theirs fails.
+# What the linters say of whatever here isn't Rattle: shellcheck of the shell scripts, pyflakes of the Python ones,
+# eslint of the page's script as it is joined, of what its modules take of each other and of its core's tests, tsc of
+# the types that the core's comments tell. Each word of theirs fails.
 #
 #     apt-get install shellcheck pyflakes3 eslint node-typescript
 #     scripts/outside/tree/lint.sh
@@ -18,15 +18,18 @@ try() {
     if "$@"; then passed=$((passed + 1)); else failed=$((failed + 1)); fi
 }
 
-mapfile -t scripts < <(find .ci bench examples packaging scripts tools -type f \( -name '*.sh' -o -path .ci/run \) ! -path '*/out/*' | sort)
+mapfile -t scripts < <(
+    find .ci bench examples packaging scripts tools -type f \( -name '*.sh' -o -path .ci/run \) ! -path '*/out/*' | sort
+)
 mapfile -t programs < <(find bench examples packaging scripts tools -type f -name '*.py' ! -path '*/out/*' | sort)
 try shellcheck -S warning "${scripts[@]}"
 try pyflakes3 "${programs[@]}"
 
 # Debian's eslint and tsc find their parts where Debian's Node looks; another Node is told.
 export NODE_PATH=${NODE_PATH:-/usr/share/nodejs}
-rules='{no-undef: 2, no-unused-vars: 2, no-redeclare: [2, {builtinGlobals: false}], no-var: 2, prefer-const: 2, eqeqeq: 2,
-    no-unreachable: 2, no-fallthrough: 2, no-dupe-keys: 2, no-self-compare: 2, no-cond-assign: [2, except-parens]}'
+rules='{no-undef: 2, no-unused-vars: 2, no-redeclare: [2, {builtinGlobals: false}], no-var: 2, prefer-const: 2,
+    eqeqeq: 2, no-unreachable: 2, no-fallthrough: 2, no-dupe-keys: 2, no-self-compare: 2,
+    no-cond-assign: [2, except-parens]}'
 style=(--no-eslintrc --format unix --rule "$rules" --rule '{max-len: [2, 120]}')
 
 # What eslint says of the page's script, which is joined of its modules.

@@ -14,8 +14,8 @@ import re
 
 PAGE = pathlib.Path(__file__).resolve().parents[3] / "tools" / "page"
 # The page's state, and the module that writes it; within a form's work that form is 'now'.
-OWNERS = {"map": "map.js", "shown": "map.js", "rows": "rows.js", "form": "form.js", "now": "form.js", "outbox": "outbox.js",
-          "tracked": "mine.js"}  # fmt: skip
+OWNERS = {"map": "map.js", "shown": "map.js", "rows": "rows.js", "form": "form.js", "now": "form.js",
+          "outbox": "outbox.js", "tracked": "mine.js"}  # fmt: skip
 FUNCTION = re.compile(r"(?m)^(?:export )?(?:async )?function (\w+)")
 DECLARED = re.compile(r"(?m)^(?:export )?(const|let) (.*)")
 NAMED = re.compile(r"(?:^|, )(\w+) = (new (?:Map|Set|WeakMap)\b|\{\};|\[\];)?")
@@ -32,8 +32,12 @@ def names_of(module):
 def rules_of(module):
     """What a module may not write, and how that is found."""
     others = "|".join(name for name, owner in OWNERS.items() if owner != module.name)
-    written = [f"AssignmentExpression[left.object.name=/^({others})$/]", f"UpdateExpression[argument.object.name=/^({others})$/]",
-               f"CallExpression[callee.object.name='Object'][callee.property.name='assign'][arguments.0.name=/^({others})$/]"]  # fmt: skip
+    written = [
+        f"AssignmentExpression[left.object.name=/^({others})$/]",
+        f"UpdateExpression[argument.object.name=/^({others})$/]",
+        "CallExpression[callee.object.name='Object'][callee.property.name='assign']"
+        f"[arguments.0.name=/^({others})$/]",
+    ]
     message = f"{module.name} writes what another module's is: call a function of that."
     return [2, *({"selector": it, "message": message} for it in written)]
 
@@ -41,8 +45,14 @@ def rules_of(module):
 def main():
     given = {it: names_of(it) for it in sorted(PAGE.glob("*.*js"))}
     modules = [it for it in given if it.suffix == ".js"]
-    overrides = [{"files": [f"**/{module.name}"], "rules": {"no-restricted-syntax": rules_of(module)},
-                  "globals": {name: "readonly" for it in given if it != module for name in given[it]}} for module in modules]  # fmt: skip
+    overrides = [
+        {
+            "files": [f"**/{module.name}"],
+            "rules": {"no-restricted-syntax": rules_of(module)},
+            "globals": {name: "readonly" for it in given if it != module for name in given[it]},
+        }
+        for module in modules
+    ]
     print(json.dumps({
         "env": {"browser": True, "es6": True}, "parserOptions": {"ecmaVersion": 2022},
         "globals": {"L": "readonly", "TextDecoderStream": "readonly", "BigInt": "readonly"},

@@ -106,7 +106,8 @@ def position(page):
     """What the page tells: easting, northing, of what, and the zoom."""
     told = page.value("byId('position').innerText")
     found = re.fullmatch(
-        r"E (-?[0-9.]+) m, N (-?[0-9.]+) m \((pointer|finger|centre)\)\nzoom ([0-9]+), ([0-9.]+)(?: by ([0-9.]+))? m a pixel(?:, [0-9]+ times (?:larger|smaller))?",
+        r"E (-?[0-9.]+) m, N (-?[0-9.]+) m \((pointer|finger|centre)\)\n"
+        r"zoom ([0-9]+), ([0-9.]+)(?: by ([0-9.]+))? m a pixel(?:, [0-9]+ times (?:larger|smaller))?",
         told,
     )
     assert found, f"the page tells {told!r}"
@@ -798,7 +799,8 @@ def check_tool_without_leaflet(scene):
     """Where Leaflet, its licence or the program is missing, that is named with what brings it; a reader who is gone
     gets no traceback."""
     for name in ("LEAFLET", "LICENCE"):
-        code = f"import sys, pathlib, make_viewer; make_viewer.{name} = pathlib.Path('/nowhere'); make_viewer.run_tool(make_viewer.main)"
+        code = f"import sys, pathlib, make_viewer; make_viewer.{name} = pathlib.Path('/nowhere'); "
+        code += "make_viewer.run_tool(make_viewer.main)"
         _, told = run(
             "env",
             f"PYTHONPATH={TOP / 'tools'}",

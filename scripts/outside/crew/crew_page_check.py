@@ -1073,20 +1073,25 @@ def check_a_row_saved_anew_while_it_is_sent(scene):
     expect(by_title(rows_of(seat), "Bench")[1], ("a word", 0), "the row")
 
 
-def with_trees(scene, trees, **how):
-    """A desk and its page, with so many rows more than the stones."""
+def with_rows(scene, rows, **how):
+    """A desk and its page, with more rows than the stones, each told by its table, number, title, note and amount."""
     file = scene.copy()
-    places = [(500_000 + it * 389 % 1000, 5_600_000 + it * 211 % 997) for it in range(trees)]
-    rows = [
-        ("spots", 1000 + it, f"Tree {it}", f"@25832:{east}/{north} oak", it) for it, (east, north) in enumerate(places)
-    ]
     with contextlib.closing(sqlite3.connect(file)) as opened:  # which is quicker than so many commits
         opened.executemany("INSERT INTO mm_rows (table_name, id, title, note, amount) VALUES (?, ?, ?, ?, ?)", rows)
         opened.commit()
     expect(mmpkg("check", file), "package ok\n", "the check")
     seat = Seat(file)
     scene.seats.append(seat)
-    crew = scene.crew(seat.address, **how)
+    return seat, scene.crew(seat.address, **how)
+
+
+def with_trees(scene, trees, **how):
+    """A desk and its page, with so many rows more than the stones."""
+    places = [(500_000 + it * 389 % 1000, 5_600_000 + it * 211 % 997) for it in range(trees)]
+    rows = [
+        ("spots", 1000 + it, f"Tree {it}", f"@25832:{east}/{north} oak", it) for it, (east, north) in enumerate(places)
+    ]
+    seat, crew = with_rows(scene, rows, **how)
     crew.page.wait(f"byId('count').innerText === '{trees + STONES} rows, 100 are shown'", 60)
     return seat, crew
 

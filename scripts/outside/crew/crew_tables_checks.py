@@ -4,14 +4,11 @@ Rows of each table with a look of its own, which are switched on and off, tapped
 of a row; and the legend, on small screens and by night. Numbers are of the rows that each check makes.
 """
 
-import contextlib
 import json
-import sqlite3
 
-from checks import expect, mmpkg
+from checks import expect
 from crew_measure_checks import look
-from crew_page import Seat
-from crew_page_check import COVERED, LOOK_AS, NAMES, STONES, expect_quiet, focus, rows_of, send
+from crew_page_check import COVERED, LOOK_AS, NAMES, STONES, expect_quiet, focus, rows_of, send, with_rows
 
 KINDS = ("Oak", "Elm", "Oak", "Ash")
 DRAWN = "new Promise(good => requestAnimationFrame(() => requestAnimationFrame(() => good(true))))"
@@ -35,19 +32,12 @@ def place_of(tree):
 
 def with_owners(scene, count, **how):
     """A desk and its page, with so many rows at places in the table that isn't worked on, numbered from 1000 on."""
-    file = scene.copy()
     places = [place_of(it) for it in range(count)]
     rows = [
         ("owners", 1000 + it, f"{KINDS[it % 4]} {it}", f"@25832:{east}/{north} by the way", it % 7)
         for it, (east, north) in enumerate(places)
     ]
-    with contextlib.closing(sqlite3.connect(file)) as opened:  # which is quicker than so many commits
-        opened.executemany("INSERT INTO mm_rows (table_name, id, title, note, amount) VALUES (?, ?, ?, ?, ?)", rows)
-        opened.commit()
-    expect(mmpkg("check", file), "package ok\n", "the check")
-    seat = Seat(file)
-    scene.seats.append(seat)
-    crew = scene.crew(seat.address, **how)
+    seat, crew = with_rows(scene, rows, **how)
     crew.page.wait(f"placed.length === {count + STONES}")
     return seat, crew
 

@@ -3,7 +3,8 @@
 #
 #     bench/all.sh [FOLDER]
 #
-# FOLDER is where the files of the second round are made (else the system's folder for such). Nothing else should run beside it.
+# FOLDER is where the files of the second round are made (else the system's folder for such). Nothing else should run
+# beside it.
 set -eu -o pipefail
 cd "$(dirname "$0")"
 said=$(mktemp -d)

@@ -51,8 +51,9 @@ def make_noise(folder):
     (folder / "noise.vrt").write_text(
         '<VRTDataset rasterXSize="1000" rasterYSize="1000">'
         + "".join(
-            f'<VRTRasterBand dataType="Byte" band="{it + 1}" subClass="VRTRawRasterBand"><SourceFilename relativeToVRT="1">'
-            f"noise.raw</SourceFilename><ImageOffset>{it * 1_000_000}</ImageOffset><PixelOffset>1</PixelOffset>"
+            f'<VRTRasterBand dataType="Byte" band="{it + 1}" subClass="VRTRawRasterBand">'
+            f'<SourceFilename relativeToVRT="1">noise.raw</SourceFilename>'
+            f"<ImageOffset>{it * 1_000_000}</ImageOffset><PixelOffset>1</PixelOffset>"
             "<LineOffset>1000</LineOffset></VRTRasterBand>"
             for it in range(3)
         )

@@ -63,10 +63,12 @@ def fill_other(file, start, end, size):
     database = sqlite3.connect(file)
     if start == 0:
         database.executescript(
-            """CREATE TABLE gpkg_tile_matrix (table_name TEXT NOT NULL, zoom_level INTEGER NOT NULL, matrix_width INTEGER NOT NULL,
-                matrix_height INTEGER NOT NULL, PRIMARY KEY (table_name, zoom_level)) STRICT;
-            CREATE TABLE mm_tiles (table_name TEXT NOT NULL, zoom_level INTEGER NOT NULL, tile_column INTEGER NOT NULL, tile_row INTEGER NOT NULL,
-                tile_data BLOB NOT NULL, PRIMARY KEY (table_name, zoom_level, tile_column, tile_row),
+            """CREATE TABLE gpkg_tile_matrix (table_name TEXT NOT NULL, zoom_level INTEGER NOT NULL,
+                matrix_width INTEGER NOT NULL, matrix_height INTEGER NOT NULL,
+                PRIMARY KEY (table_name, zoom_level)) STRICT;
+            CREATE TABLE mm_tiles (table_name TEXT NOT NULL, zoom_level INTEGER NOT NULL,
+                tile_column INTEGER NOT NULL, tile_row INTEGER NOT NULL, tile_data BLOB NOT NULL,
+                PRIMARY KEY (table_name, zoom_level, tile_column, tile_row),
                 FOREIGN KEY (table_name, zoom_level) REFERENCES gpkg_tile_matrix ON DELETE CASCADE) STRICT;"""
         )
         database.execute("INSERT INTO gpkg_tile_matrix VALUES ('base', 0, ?, ?)", (SIDE, SIDE))
@@ -113,10 +115,12 @@ def main():
             theirs = measured([sys.executable, "-c", CHECKS, other])
             taken.append(ours)
             print(
-                f"{end} tiles: mmpkg {ours[0]:.2f} s, {ours[1]} KB, of which opening {alone[0]:.2f} s, {alone[1]} KB; SQLite {theirs[0]:.2f} s, {theirs[1]} KB"
+                f"{end} tiles: mmpkg {ours[0]:.2f} s, {ours[1]} KB, of which opening {alone[0]:.2f} s, {alone[1]} KB; "
+                f"SQLite {theirs[0]:.2f} s, {theirs[1]} KB"
             )
         print(
-            f"twice the tiles: {taken[1][0] / max(taken[0][0], 0.01):.2f} times the seconds, {taken[1][1] / taken[0][1]:.2f} times the memory"
+            f"twice the tiles: {taken[1][0] / max(taken[0][0], 0.01):.2f} times the seconds, "
+            f"{taken[1][1] / taken[0][1]:.2f} times the memory"
         )
 
 

@@ -10,6 +10,7 @@ import argparse
 import os
 import pathlib
 import shutil
+import socket
 import subprocess
 import threading
 import time
@@ -46,6 +47,12 @@ def make_package(program, file, records=""):
         subprocess.run(
             [program, "run", file, "--at", "0"], input=records.encode(), check=True, stdout=subprocess.DEVNULL
         )
+
+
+def free_port():
+    """A port that is free now."""
+    with socket.create_server(("127.0.0.1", 0)) as listener:
+        return listener.getsockname()[1]
 
 
 class Run:

@@ -114,7 +114,8 @@ def made(file, rows):
         connection.executescript(
             """
             PRAGMA journal_mode = WAL;
-            CREATE TABLE tiles (name TEXT, zoom INTEGER, tile_column INTEGER, tile_row INTEGER, data BLOB, PRIMARY KEY (name, zoom, tile_column, tile_row));
+            CREATE TABLE tiles (name TEXT, zoom INTEGER, tile_column INTEGER, tile_row INTEGER, data BLOB,
+                PRIMARY KEY (name, zoom, tile_column, tile_row));
             CREATE TABLE spots (id INTEGER PRIMARY KEY, title TEXT, note TEXT, amount INTEGER);
             CREATE TABLE photos (id INTEGER PRIMARY KEY, content_type TEXT, data BLOB);
             CREATE TABLE shows (base_id INTEGER, related_id INTEGER, PRIMARY KEY (base_id, related_id));"""
@@ -184,12 +185,6 @@ def serve_python(file, port):
 # ---- the measures
 
 
-def free_port():
-    """A port that is free now."""
-    with socket.create_server(("127.0.0.1", 0)) as listener:
-        return listener.getsockname()[1]
-
-
 def timed(side, rounds, method, path, body):
     """Seconds of the clock of each request, and processor seconds of one, of a side; the first request is not
     counted."""
@@ -217,7 +212,8 @@ def tell(what, sides, rounds, method, path, body):
     print(
         f"{what}: "
         + ", ".join(
-            f"{it} {1e3 * statistics.median(clock[it]):.2f} ms of the clock, {1e3 * min(taken_up[it]):.2f} ms of a processor"
+            f"{it} {1e3 * statistics.median(clock[it]):.2f} ms of the clock, "
+            f"{1e3 * min(taken_up[it]):.2f} ms of a processor"
             for it in sides
         )
     )
@@ -240,7 +236,7 @@ def main():
         for name in ("run", "serve"):
             (place / f"{name}.mmpkg").write_bytes((place / "desk.mmpkg").read_bytes())
         made(place / "python.db", asked.rows)
-        ports = {name: free_port() for name in ("desk", "serve", "python")}
+        ports = {name: common.free_port() for name in ("desk", "serve", "python")}
         words = {
             name: [asked.program, name, str(place / f"{name}.mmpkg"), "--port", str(ports[name]), "--count", str(MOST)]
             for name in ("desk", "serve")

@@ -73,7 +73,8 @@ def main():
     for pieces in (512, 4096):
         with tempfile.TemporaryDirectory(dir=asked.folder) as folder:
             print(
-                f"publishing {pieces} pieces of 10 kB held {memory_of_publishing(asked.program, folder, pieces):.1f} MiB at most"
+                f"publishing {pieces} pieces of 10 kB held "
+                f"{memory_of_publishing(asked.program, folder, pieces):.1f} MiB at most"
             )
 
 

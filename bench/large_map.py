@@ -15,7 +15,6 @@ import os
 import pathlib
 import random
 import re
-import socket
 import subprocess
 import sys
 import tempfile
@@ -67,14 +66,9 @@ def fill(file, source, environment):
     print(f"= fill.py, {size:.0f} MB: {minutes:.1f} minutes of the clock, {peak:.0f} MiB at most in one process")
 
 
-def free_port():
-    with socket.create_server(("127.0.0.1", 0)) as listener:
-        return listener.getsockname()[1]
-
-
 def day(file, environment):
     """Opens a package for a day; how long it said that would take, and how long it took, in seconds."""
-    words = ["--no-browser", "--port", str(free_port())]
+    words = ["--no-browser", "--port", str(common.free_port())]
     began = time.perf_counter()
     running = subprocess.Popen(
         [sys.executable, "-B", TOOLS / "crew.py", file, *words], stdout=subprocess.PIPE, text=True, env=environment

@@ -3,9 +3,9 @@
 
     bench/migrate.py [--program out/mmpkg] [--tiles 100000] [--bytes 200] [--folder FOLDER]
 
-A package of one pyramid is filled, and put back to profile 1 by scripts/outside/make_profile_1.py. Printed are the
-processor seconds and the peak memory of `migrate`, of `migrate` again, which only checks, and of `check`; and how much
-of the file migrating changed.
+A package of one pyramid is filled, and put back to profile 1 by scripts/outside/program/make_profile_1.py. Printed are
+the processor seconds and the peak memory of `migrate`, of `migrate` again, which only checks, and of `check`; and how
+much of the file migrating changed.
 """
 
 import pathlib
@@ -15,7 +15,7 @@ import tempfile
 import common
 from check import fill, measured, new_package
 
-sys.path.insert(0, str(pathlib.Path(__file__).resolve().parent.parent / "scripts" / "outside"))
+sys.path.insert(0, str(pathlib.Path(__file__).resolve().parent.parent / "scripts" / "outside" / "program"))
 from make_profile_1 import put_back  # noqa: E402
 
 PAGE = 4096

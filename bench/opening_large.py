@@ -42,7 +42,8 @@ def told(what, words, megabytes):
     seconds, peak = measured(words)
     clock = time.perf_counter() - begin
     print(
-        f"= {what}: {megabytes / seconds:.0f} MB a second of a processor, {megabytes / clock:.0f} of the clock, {peak / 1024:.0f} MiB at most"
+        f"= {what}: {megabytes / seconds:.0f} MB a second of a processor, {megabytes / clock:.0f} of the clock, "
+        f"{peak / 1024:.0f} MiB at most"
     )
 
 

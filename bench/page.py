@@ -29,7 +29,8 @@ def python_server(file, port, ready):
         def do_GET(self):
             _, _, table, zoom, column, row = self.path.split("/")
             found = connection.execute(
-                "SELECT tile_data FROM mm_tiles WHERE table_name = ? AND zoom_level = ? AND tile_column = ? AND tile_row = ?",
+                "SELECT tile_data FROM mm_tiles "
+                "WHERE table_name = ? AND zoom_level = ? AND tile_column = ? AND tile_row = ?",
                 (table, int(zoom), int(column), int(row)),
             ).fetchone()
             self.send_response(200)
@@ -94,8 +95,8 @@ def main():
         copy = str(pathlib.Path(folder) / "copy.db")
         with sqlite3.connect(copy) as connection:
             connection.execute(
-                "CREATE TABLE mm_tiles (table_name TEXT, zoom_level INTEGER, tile_column INTEGER, tile_row INTEGER, tile_data BLOB,"
-                " PRIMARY KEY (table_name, zoom_level, tile_column, tile_row)) STRICT"
+                "CREATE TABLE mm_tiles (table_name TEXT, zoom_level INTEGER, tile_column INTEGER, tile_row INTEGER,"
+                " tile_data BLOB, PRIMARY KEY (table_name, zoom_level, tile_column, tile_row)) STRICT"
             )
             connection.execute("INSERT INTO mm_tiles VALUES ('base', 0, 0, 0, ?)", (b"\x5a" * given.bytes,))
         ours, theirs = [], []
@@ -105,7 +106,8 @@ def main():
             print(f"round {number + 1}: mmpkg {ours[-1]:.0f}, Python {theirs[-1]:.0f} requests a second")
         ratios = [one / other for one, other in zip(ours, theirs)]
         print(
-            f"median: mmpkg {statistics.median(ours):.0f}, Python {statistics.median(theirs):.0f}; ratio {statistics.median(ratios):.2f}"
+            f"median: mmpkg {statistics.median(ours):.0f}, Python {statistics.median(theirs):.0f}; "
+            f"ratio {statistics.median(ratios):.2f}"
             f" ({min(ratios):.2f} .. {max(ratios):.2f})"
         )
 

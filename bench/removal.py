@@ -48,8 +48,10 @@ def main():
                 run.stdin.writelines(records_of(what, asked.bytes))
                 run.stdin.close()
             size, opening = os.path.getsize(file) / 1e6, held(asked.program, file, folder, "")
+            removing = held(asked.program, file, folder, f"{what}\n")
             print(
-                f"{what}: a file of {size:.0f} MB; {opening:.1f} MiB to open and close it, {held(asked.program, file, folder, what + chr(10)):.1f} MiB with the command"
+                f"{what}: a file of {size:.0f} MB; {opening:.1f} MiB to open and close it, "
+                f"{removing:.1f} MiB with the command"
             )
 
 

@@ -30,7 +30,8 @@ def filling(count):
     for number in range(count):
         yield f"tile,base,0,{number % SIDE},{number // SIDE},{number:08x}\n"
     for number in range(1, count + 1):
-        yield f"row,spots,{number},Well,,0\nmedia,photos,{number},image/png,{number:08x}\nmap,spot_photos,{number},{number}\n"
+        row, photo = f"row,spots,{number},Well,,0\n", f"media,photos,{number},image/png,{number:08x}\n"
+        yield f"{row}{photo}map,spot_photos,{number},{number}\n"
 
 
 def fill(program, file, count):

@@ -1,6 +1,7 @@
 #!/usr/bin/env bash
-# A first look in three minutes: the commands of scripts/example.sh, by the program as the toolchain compiles it with no proof. It is NOT the product: nothing
-# is proved, each step is watched, and it runs some 300 times slower. What it prints is compared with examples/expected.txt.
+# A first look in three minutes: the commands of scripts/example.sh, by the program as the toolchain compiles it with no
+# proof. It is NOT the product: nothing is proved, each step is watched, and it runs some 300 times slower. What it
+# prints is compared with examples/expected.txt.
 #
 #     scripts/first_look.sh
 set -eu -o pipefail
@@ -22,7 +23,7 @@ case_of() { # INPUT WORD ..
 
 # What examples/expected.txt has below the Nth command that runs the program.
 expected() { # N
-    awk -v n="$1" '/^\$ / {k += /mmpkg (init|run|kit|list|check)/; on = k == n && /mmpkg (init|run|kit|list|check)/; next}
+    awk -v n="$1" '/^\$ / {runs = /mmpkg (init|run|kit|list|check)/; k += runs; on = k == n && runs; next}
         /^\(status / {on = 0} on' examples/expected.txt
 }
 
@@ -38,4 +39,5 @@ case_of '' list "$file"
 case_of '' check "$file"
 cd crates/mm_cli
 rt try --cases "$room/cases"
-echo "A first look, with nothing proved: each command printed what examples/expected.txt has. scripts/example.sh builds and runs the product."
+echo "A first look, with nothing proved: each command printed what examples/expected.txt has." \
+    "scripts/example.sh builds and runs the product."

@@ -1,6 +1,7 @@
 #!/usr/bin/env bash
-# What to run before a push, short of the gate: lays out what changed, tries the tests with no proof, looks through the documents, and then proves the
-# crates that changed since a commit with those above them, runs the tests among them, and tries their edits.
+# What to run before a push, short of the gate: lays out what changed, tries the tests with no proof, looks through the
+# documents, and then proves the crates that changed since a commit with those above them, runs the tests among them,
+# and tries their edits.
 #
 #     scripts/ready.sh [COMMIT]      without it: origin's main
 set -eu -o pipefail
@@ -11,7 +12,7 @@ scripts/fmt.sh "$since"
 for crate in crates/mm_test_*/; do
     (cd "$crate" && rt try --test)
 done
-[ ! -x out/mmpkg ] || scripts/outside/check_docs.py "$PWD/out/mmpkg"
+[ ! -x out/mmpkg ] || scripts/outside/tree/check_docs.py "$PWD/out/mmpkg"
 mapfile -t touched < <(scripts/touched.sh "$since")
 [ "${#touched[@]}" = 0 ] || scripts/prove.py "${touched[@]}"
 edited=()

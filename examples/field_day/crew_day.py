@@ -25,11 +25,12 @@ import tempfile
 import time
 
 TOP = pathlib.Path(__file__).resolve().parents[2]
-sys.path[:0] = [str(TOP / "tools"), str(TOP / "scripts" / "outside")]
+sys.path[:0] = [str(TOP / "tools"), str(TOP / "scripts" / "outside" / "lib")]
 import devtools  # noqa: E402
 import land  # noqa: E402
 import note_words  # noqa: E402
-from crew_page import Crew, free_port  # noqa: E402
+from checks import free_port  # noqa: E402
+from crew_page import Crew  # noqa: E402
 
 BROWSER = "chromium"
 KILLS = 5

@@ -3,8 +3,8 @@
 
     look.py FILE SPOT OUT.png      the whole map at 900 by 600, and beside it what the spot is related to
 
-Where Chromium, or what drives it (scripts/outside/devtools.py), isn't there, that is told on standard error and nothing
-is made.
+Where Chromium, or what drives it (scripts/outside/lib/devtools.py), isn't there, that is told on standard error and
+nothing is made.
 """
 
 import contextlib
@@ -16,7 +16,7 @@ import sys
 import tempfile
 
 TOP = pathlib.Path(__file__).resolve().parents[2]
-sys.path[:0] = [str(TOP / "tools"), str(TOP / "scripts" / "outside")]
+sys.path[:0] = [str(TOP / "tools"), str(TOP / "scripts" / "outside" / "lib")]
 from border import program  # noqa: E402
 
 SETTLED = (
@@ -59,7 +59,7 @@ def main(file, spot, out):
     try:
         import devtools
     except ImportError:
-        print(f"{out}: not shown: there is no scripts/outside/devtools.py", file=sys.stderr)
+        print(f"{out}: not shown: there is no scripts/outside/lib/devtools.py", file=sys.stderr)
         return
     if not shutil.which("chromium"):
         print(f"{out}: not shown: there is no Chromium (apt-get install chromium)", file=sys.stderr)

@@ -37,8 +37,8 @@ OPENING = (
     "relation relation relation map map edition"
 ).split()
 TEXTS = (
-    "", "a", "Well, by \"the\" road", "two\nlines\r\n", "Straße", "\U0010ffff", "\x01\t\x7f", "é" * 500, "'; --", " ", "NULL", "\"",
-    "x" * 1000, "0", "\ufeff",
+    "", "a", "Well, by \"the\" road", "two\nlines\r\n", "Straße", "\U0010ffff", "\x01\t\x7f", "é" * 500, "'; --", " ",
+    "NULL", "\"", "x" * 1000, "0", "\ufeff",
 )  # fmt: skip
 IDENTIFIERS = "Base map", "Karte, \"neu\"", "Straße \\ /", "\U0010ffff", " ", "é" * 500, "0", "a'b", "\x80", "\u2028"
 CONTENT_TYPES = "image/png", "a/b", "x" * 64 + "/" + "Y" * 64, "!#$&^_.+-/0"
@@ -46,16 +46,17 @@ ITEMS = 1, 2, 3, 4, 5, MOST_NUMBER - 1, MOST_NUMBER
 FILES = {"a.bin": b"\x00", "b": b"\x89PNG\r\n", "-c.": b"c" * 300, "_" * 100: b"\xff", "none.png": b""}
 
 NUMBER_EDGES = (
-    "", "-0", "+1", "01", "00", "-01", "1.0", " 1", "1 ", "1e3", "-", "--1", "0x1", "1,0", "\u0661", "1" + "0" * 30, "-" + "9" * 40,
-    "9" * 5000, "9223372036854775808", "18446744073709551616", "-1", "0", "1",
+    "", "-0", "+1", "01", "00", "-01", "1.0", " 1", "1 ", "1e3", "-", "--1", "0x1", "1,0", "\u0661", "1" + "0" * 30,
+    "-" + "9" * 40, "9" * 5000, "9223372036854775808", "18446744073709551616", "-1", "0", "1",
 )  # fmt: skip
 TEXT_EDGES = "", "\0", "a\0b", "\x1f", "\x7f", " ", "\n", "é"
 NAME_EDGES = (
-    "", "a" * 60, "a" * 61, "_" * 60, "gpkg", "gpkg_a", "sqlite_", "sqlite1", "mm_", "mm_a", "mm", "gpk", "sqlit", "a_gpkg", "Abc", "aB", "1a",
-    "a1", "a-b", "a b", "é", "a\0", "a\n",
+    "", "a" * 60, "a" * 61, "_" * 60, "gpkg", "gpkg_a", "sqlite_", "sqlite1", "mm_", "mm_a", "mm", "gpk", "sqlit",
+    "a_gpkg", "Abc", "aB", "1a", "a1", "a-b", "a b", "é", "a\0", "a\n",
 )  # fmt: skip
 CONTENT_TYPE_EDGES = (
-    "", "a", "/", "a/", "/a", "a/b/c", "a b/c", "a/b;c", "é/b", "a/b\n", "a" * 65 + "/b", "b/" + "a" * 65, "a" * 64 + "/b", "*/*", "a/b\0",
+    "", "a", "/", "a/", "/a", "a/b/c", "a b/c", "a/b;c", "é/b", "a/b\n", "a" * 65 + "/b", "b/" + "a" * 65,
+    "a" * 64 + "/b", "*/*", "a/b\0",
 )  # fmt: skip
 HEXADECIMAL_EDGES = "", "0", "0g", "AbcD", " 00", "0x00", "abc", "00\n", "é"
 WORD_EDGES = (

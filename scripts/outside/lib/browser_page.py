@@ -1,0 +1,38 @@
+"""What a page has in each browser that scripts/outside/lib/browsers.py starts."""
+
+import time
+
+# How long a browser may take to answer, and a page to come to something, on a busy machine.
+ANSWER_SECONDS = 60
+WAIT_SECONDS = 60
+
+
+class Away(Exception):
+    """The page that was asked has gone, and another comes."""
+
+
+class BrowserPage:
+    """A page of a browser: addresses that it `asked` for over the network, and what its console and its log `said`."""
+
+    def __init__(self, browser):
+        self.browser = browser
+        self.asked = []
+        self.said = []
+
+    def value(self, expression):
+        """The value of an expression in the page; a promise is waited for."""
+        raise NotImplementedError
+
+    def is_so(self, expression):
+        """Whether an expression is true; not while another page comes."""
+        try:
+            return self.value(expression)
+        except Away:
+            return False
+
+    def wait(self, expression, seconds=WAIT_SECONDS):
+        """Waits until an expression is true."""
+        deadline = time.monotonic() + seconds
+        while not self.is_so(expression):
+            assert time.monotonic() < deadline, f"not within {seconds} s: {expression}"
+            time.sleep(0.05)

@@ -12,7 +12,8 @@ else may read: so the address is the same tomorrow, and what a browser keeps is 
 parcels and lines of any format), drawn as it is asked for, and no part of FILE. Which they are is kept in FILE.maps, a
 list of their names, and they come again without the word; --map adds to it, --no-maps forgets those of before. It wants
 Debian's python3-gdal; without that the page opens, and has no maps behind it. The same program brings the device's
-place into a system of the package that the page can't reckon, by PROJ, and runs for that too.
+place into a system of the package that the page can't reckon, by PROJ, and runs for that too; it is started again where
+it ends.
 
 When the program ends by a fault, or is killed, it is started again, and the page goes on. Ctrl-C, or 'End the day' in
 the page, ends it well: then FILE alone holds all, and may be copied. What can't be opened at the first start is told in

@@ -607,6 +607,37 @@ def check_maps_behind_the_work():
         )
 
 
+def programs_of_maps(ground):
+    """The programs that draw a map, by their process."""
+    found = []
+    for it in pathlib.Path("/proc").glob("[0-9]*"):
+        with contextlib.suppress(OSError):
+            words = (it / "cmdline").read_bytes().split(b"\0")
+            if str(ground).encode() in words and any(word.endswith(b"/maps.py") for word in words):
+                found.append(int(it.name))
+    return found
+
+
+def check_a_program_of_maps_that_ends():
+    """It is started again at its address, so that the page goes on; where it ends again and again that is said, and the
+    day goes on."""
+    if not has_gdal():
+        return
+    with folder_with() as file:
+        ground = grid_in(file.parent)
+        started = Started(file, "--map", ground)
+        maps = maps_told(started)
+        for _ in range(10):
+            (running,) = programs_of_maps(ground)
+            os.kill(running, signal.SIGKILL)
+            if "as soon as" in started.until("What GDAL does beside the page ended"):
+                break
+            wait_until(lambda: is_there(maps), "the maps come again where they were")
+        expect((programs_of_maps(ground), is_there(maps)), ([], False), "maps that end again and again")
+        started.running.send_signal(signal.SIGINT)
+        expect(started.wait()[-1], ENDED.format(file), "the end")
+
+
 def check_which_maps_are_kept():
     """A list of maps goes along with its folder; what is no list stays as it is, and the package opens all the same."""
     if not has_gdal():

@@ -34,5 +34,13 @@ class BrowserPage:
         """Waits until an expression is true."""
         deadline = time.monotonic() + seconds
         while not self.is_so(expression):
-            assert time.monotonic() < deadline, f"not within {seconds} s: {expression}"
+            assert time.monotonic() < deadline, f"not within {seconds} s: {expression}\n{self.looks()}"
             time.sleep(0.05)
+
+    def looks(self):
+        """What the page shows, and what its console said last, for who asks why a check failed."""
+        try:
+            shown = self.value("document.body?.innerText ?? ''")
+        except (Away, AssertionError, OSError) as error:
+            shown = f"nothing: {error}"
+        return f"  the page shows: {shown!r:.1500}\n  its console: {self.said[-5:]!r:.1500}"

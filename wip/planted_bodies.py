@@ -1,16 +1,21 @@
 #!/usr/bin/env python3
 """Planted bodies that are still to be judged: what a tired programmer would write, as edits, each of one line.
 
-    wip/planted_bodies.py COPY write    puts them into must-fail/ of a copy of the repository, in place of its edits
-    wip/planted_bodies.py COPY          names those whose line doesn't stand in the code any more
+    wip/planted_bodies.py COPY                  names those whose line doesn't stand in the code any more
+    wip/planted_bodies.py COPY try [NAME ..]    checks the function of each alone, a minute each on a quiet machine
+    wip/planted_bodies.py COPY write            puts them into must-fail/ of COPY, in place of its edits
 
-Then, in COPY, `rt must-fail mm_program`. What isn't refused becomes a clause, a test, or a line of 'Open' in
-docs/PROOFS.md; then this file goes. Which tests should refuse some of them, by reading and not tried: p17, p18, p19, p28, p31, p33,
-p35 (desk_check.py, crew_page_check.py, the transcript `kit`), p20 (`no_file`), p32 (`clock.sh`), p39
-(`largest_bytes`); p15 (desk_check.py, a key that is no text).
+COPY is a copy of the repository with the crate proved in it (`rt check` in its folder). `try` says which function isn't
+proved any more, and at what; one that is refused since a proof names what is gone (p13 is) says little: mend the proof,
+and try again. What isn't refused becomes a clause, a test, or a line of 'Open' in docs/PROOFS.md; then this file goes.
+Which tests should refuse some of them, by reading and not tried: p17, p18, p19, p28, p31, p33, p35 (desk_check.py,
+crew_page_check.py, the transcript `kit`), p20 (`no_file`), p32 (`clock.sh`), p39 (`largest_bytes`); p15 (desk_check.py,
+a key that is no text).
 """
 import pathlib
+import re
 import shutil
+import subprocess
 import sys
 
 top = pathlib.Path(sys.argv[1])
@@ -45,21 +50,45 @@ plant(p, "p33_a_patience_of_double", "src/sockets.rt", "    let patience = Some(
 plant(p, "p35_every_address_has_the_desk", "src/desks.rt", "    let Ok(listener) = TcpListener::bind(work.rt, (Ipv4Addr::LOCALHOST, work.port)) else {", "    let Ok(listener) = TcpListener::bind(work.rt, (Ipv4Addr::UNSPECIFIED, work.port)) else {")
 plant(p, "p37_a_page_that_was_declined_prints", "src/serving.rt", "            Err((conn, why)) => return (conn, Err(why)),", "            Err((conn, why)) => { let _told = tell_serving(output, self.port); return (conn, Err(why)); }")
 plant(p, "p39_a_kit_is_read_to_one_byte_less", "src/kits.rt", "    match file.take(most.saturating_add(1)).read_to_end(&mut bytes) {", "    match file.take(most).read_to_end(&mut bytes) {")
-bad = 0
-count = 0
-for crate, edits in P.items():
-    folder = top / "crates" / crate / "must-fail"
-    if len(sys.argv) > 2:
-        shutil.rmtree(folder, ignore_errors=True)
-        folder.mkdir()
-    for name, file, old, new in edits:
-        if new is None:
-            continue
-        text = (top / "crates" / crate / file).read_text()
-        if text.count(old) != 1:
-            print("BAD", crate, name, text.count(old)); bad += 1
-            continue
-        count += 1
-        if len(sys.argv) > 2:
-            (folder / f"{name}.edit").write_text(f"file: {file}\nold: {old}\nnew: {new}\n")
-print(count, "plants", bad, "bad")
+
+
+def function_of(text, at, file):
+    """The function round a place of a file, as `rt check --only` names it."""
+    named = {"p27": "kits::SystemFolderFolder::read", "p31": "desks::DoorsComesSession::answer_next"}
+    named["p37"] = "serving::PageWorks::work"
+    found = re.findall(r"\n *(?:pub(?:\(crate\))? )?fn (\w+)", text[:at])
+    return lambda name: named.get(name.split("_")[0]) or f"{pathlib.Path(file).stem}::{found[-1]}"
+
+
+def judged(crate, name, file, old, new):
+    """What the check of the one function says of a body: its lines, but for those that tell how far it is."""
+    path = top / "crates" / crate / file
+    text = path.read_text()
+    function = f"{crate}::{function_of(text, text.index(old), file)(name)}"
+    path.write_text(text.replace(old, new))
+    try:
+        words = ["rt", "check", "--only", function, "--jobs", "1"]
+        done = subprocess.run(words, cwd=top / "crates" / crate, capture_output=True, text=True, check=False)
+    finally:
+        path.write_text(text)
+    told = [it for it in done.stdout.splitlines() if "modules loaded" not in it and not it.startswith(("checked", "so "))]
+    return "\n    ".join([f"{name}: {function}", *(it[:300] for it in told)])
+
+
+def main():
+    mode, *words = sys.argv[2:] or [""]
+    for crate, edits in P.items():
+        folder = top / "crates" / crate / "must-fail"
+        if mode == "write":
+            shutil.rmtree(folder, ignore_errors=True)
+            folder.mkdir()
+        for name, file, old, new in edits:
+            if (top / "crates" / crate / file).read_text().count(old) != 1:
+                print("doesn't stand once:", crate, name)
+            elif mode == "write":
+                (folder / f"{name}.edit").write_text(f"file: {file}\nold: {old}\nnew: {new}\n")
+            elif mode == "try" and (not words or any(name.startswith(it) for it in words)):
+                print(judged(crate, name, file, old, new), flush=True)
+
+
+main()

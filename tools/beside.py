@@ -138,7 +138,7 @@ class Maps:
         told = urllib.parse.urlsplit(address)
         self.at = f"{told.port}{told.path.rstrip('/')}"
         threading.Thread(target=self.keep, daemon=True).start()
-        return self.at, unopened
+        return address, unopened
 
     def keep(self):
         """Starts the program again each time that it ends by itself, but not where it does so again and again."""

@@ -278,10 +278,11 @@ class Desk:
         if opened is None:
             tell("What GDAL does beside the page, as maps behind the work, is missing: it ended, or took too long.")
             return ""
-        at, unopened = opened
+        address, unopened = opened
         for why in unopened:
             tell(f"Behind the work, not shown: {why}")
-        return f"&maps={at}"
+        told = urllib.parse.urlsplit(address)
+        return f"&maps={told.port}{told.path.rstrip('/')}"
 
     def day(self):
         """Starts the program again and again, until it ends well."""

@@ -216,7 +216,7 @@ def main():
     with tempfile.TemporaryDirectory() as name:
         scene = Scene(pathlib.Path(name))
         scene.told = scene.make()
-        with served(scene.file, scene.port):
+        with served(scene.file, scene.port, opens_ahead=True):
             passed, failed = run_checks("wmts", globals(), given.words, lambda check: check(scene))
     end(passed, failed)
 

@@ -6,11 +6,11 @@
     wip/planted_bodies.py COPY write            puts them into must-fail/ of COPY, in place of its edits
 
 COPY is a copy of the repository with the crate proved in it (`rt check` in its folder). `try` says which function isn't
-proved any more, and at what; one that is refused since a proof names what is gone (p13 is) says little: mend the proof,
-and try again. What isn't refused becomes a clause, a test, or a line of 'Open' in docs/PROOFS.md; then this file goes.
-Which tests should refuse some of them, by reading and not tried: p17, p18, p19, p28, p31, p33, p35 (desk_check.py,
-crew_page_check.py, the transcript `kit`), p20 (`no_file`), p32 (`clock.sh`), p39 (`largest_bytes`); p15 (desk_check.py,
-a key that is no text).
+proved any more, and at what; one that is refused since a proof names what is gone (p13 and p25 are) says little: mend
+the proof, and try again. What isn't refused becomes a clause, a test, or a line of 'Open' in docs/PROOFS.md; then this
+file goes. Which tests should refuse some of them, by reading and not tried: p17, p18, p19, p28, p31, p33, p35
+(desk_check.py, crew_page_check.py, the transcript `kit`), p20 (`no_file`), p32 (`clock.sh`), p39 (`largest_bytes`); p15
+(desk_check.py, a key that is no text).
 """
 import pathlib
 import re
@@ -27,9 +27,7 @@ def plant(crate, name, file, old, new):
 p = "mm_program"
 plant(p, "p12_a_desk_answers_a_thousand", "src/sittings.rt", "    for answered in 0..count {", "    for answered in 0..count.min(1000) {")
 plant(p, "p13_a_desk_goes_on_behind_every_list", "src/sittings.rt", "        Ok(_) => next_of(desk),", "        Ok(_) => Turn::Next,")
-plant(p, "p14_a_desk_is_over_where_it_is_not", "src/sittings.rt", "    if desk.is_over() {", "    if !desk.is_over() {")
 plant(p, "p15_a_key_that_is_no_text_is_none_given", "src/keys.rt", "        Err(VarError::NotUnicode) => Ok(None),", "        Err(VarError::NotUnicode) => match random_key(rt) { Ok(made) => Ok(checked(made)), Err(fault) => Err(fault) },")
-plant(p, "p16_the_second_page_is_told", "src/desks.rt", '        Some(table) => format!(in alloc; "desk http://127.0.0.1:{port}/{key}/media/{table}/1\\n"),', '        Some(table) => format!(in alloc; "desk http://127.0.0.1:{port}/{key}/media/{table}/2\\n"),')
 plant(p, "p17_the_desk_is_of_port_80", "src/desks.rt", "    let mut doors = doors_of(work.rt, listener, work.port, front, &named);", "    let mut doors = doors_of(work.rt, listener, 80, front, &named);")
 plant(p, "p18_no_table_of_pages_is_handed_on", "src/desks.rt", "    let named = page_named(work.page);", "    let named = page_named(None);")
 plant(p, "p19_the_desk_has_no_key", "src/desks.rt", '    let Ok(front) = format!(in work.rt.alloc(); "/{}", work.key) else {', '    let Ok(front) = format!(in work.rt.alloc(); "/{}", "") else {')
@@ -37,12 +35,9 @@ plant(p, "p20_a_short_file_is_as_long_as_a_database", "src/files.rt", "        O
 plant(p, "p21_the_journal_has_another_name", "src/files.rt", '    match format!(in rt.alloc(); "{path}-wal") {', '    match format!(in rt.alloc(); "{path}-journal") {')
 plant(p, "p22_no_journal_is_looked_at", "src/files.rt", "    Ok(!holds_bytes(length_of(rt, journal.as_str())?))", "    Ok(true)")
 plant(p, "p23_less_than_a_page_is_no_database", "src/files.rt", "        Ok(Some(length)) if length < SHORTEST => (", "        Ok(Some(length)) if length < 8 * SHORTEST => (")
-plant(p, "p24_files_are_closed_behind_a_fault", "src/files.rt", "        Ok(status) => status != FAULT,", "        Ok(_) => true,")
 plant(p, "p25_a_kit_that_was_declined_ends_unsaid", "src/kits.rt", "        Err(why) => (tell_stop(output, why), left),", "        Err(_) => (4, left),")
-plant(p, "p26_one_connection_is_served", "src/serving.rt", "    Ok(serve_on(rt.alloc(), session, &mut connections, count, output))", "    Ok(serve_on(rt.alloc(), session, &mut connections, count.min(1), output))")
 plant(p, "p27_a_folder_that_failed_has_not", "src/kits.rt", "                self.failed = true;", "                self.failed = false;")
 plant(p, "p28_what_cant_be_opened_is_missing", "src/kits.rt", "        Err(error) => return Err(folder_fault(error)),", "        Err(_) => return Ok(Found::Missing),")
-plant(p, "p29_no_number_is_known_with_0", "src/explaining.rt", "        None => tell_bytes(output, UNKNOWN.as_bytes(), USAGE),", "        None => tell_bytes(output, UNKNOWN.as_bytes(), DONE),")
 plant(p, "p30_no_package_is_a_fault", "src/subcommands.rt", "    left.let_go();", "    left.let_go(); if status == 4 { return 3; }")
 plant(p, "p31_what_is_left_of_a_request_stays", "src/desks.rt", "        let _ended = read_off(&stream);", "        let _ended = true;")
 plant(p, "p32_the_clock_is_asked_for_nothing", "src/clock.rt", "        Ok(time) => moment_at(time),", "        Ok(_) => Now::Outside,")

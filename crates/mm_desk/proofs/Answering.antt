@@ -15,8 +15,8 @@ use Rattle.mm_definitions.specs.Package.{Package}
 use Rattle.mm_definitions.specs.Streams.{Written}
 use Rattle.mm_definitions.specs.declared.answers.Fault.{Fault}
 use Rattle.mm_definitions.specs.declared.answers.PageFault.{PageFault}
-use Rattle.mm_gate.specs.Bodies.{IsReadFrugally}
-use Rattle.mm_gate.specs.Demand.{Demand, End, IsDemand, Records, Refuse, Show}
+use Rattle.mm_desk.specs.Body.{IsReadFrugally}
+use Rattle.mm_desk.specs.Demand.{Demand, End, IsDemand, Records, Refuse, Show}
 use Rattle.mm_page.specs.Heads.{IsHead, IsNeeded, ReadsNoMore, MostHeadBytes, MostHeadLines}
 use Rattle.mm_page.specs.Served.{IsPageFault}
 use Rattle.mm_reads.specs.declared.viewer.Viewer as viewers

@@ -1,5 +1,8 @@
 pub mod Answering
+mod DemandFacts
+mod FieldFacts
 pub mod Leaving
+mod OneDemand
 pub mod Sitting
 pub mod RowPaths
 pub mod Showing

@@ -1,6 +1,9 @@
 pub mod Answered
 pub mod Bodies
+pub mod Body
+pub mod Demand
 pub mod Exchanges
+pub mod Fields
 pub mod Lists
 pub mod Replies
 pub mod Responses

@@ -6,14 +6,16 @@ ghost use Rattle.httparse.specs.Spans.{IsRequestAt, IsRequestOf, IsRequestWithin
 ghost use Rattle.mm_definitions.specs.Faults as faults;
 ghost use Rattle.mm_definitions.specs.Streams.{has_failed, inside, is_flushed, written};
 ghost use Rattle.mm_io.specs.Records.{TellsFailing};
-ghost use Rattle.mm_gate.specs.Bodies.{IsReadFrugally};
-ghost use Rattle.mm_gate.specs.Demand.{IsDemand, demanded};
+ghost use Rattle.mm_desk.specs.Body.{IsReadFrugally};
+ghost use Rattle.mm_desk.specs.Demand.{IsDemand, demanded};
 ghost use Rattle.mm_desk.specs.Answered.{Demands, IsDeskAnswered, IsBehindHead, IsHeadless, IsPathAnswered, IsReadOn, IsReadTo, IsRecordsRun, Never, page_of};
 ghost use Rattle.mm_desk.specs.Exchanges.{IsExchange, IsFlushedBehind};
 ghost use Rattle.mm_desk.specs.Responses.{go_on};
 ghost use Rattle.mm_desk.specs.Sent.{IsSentOff};
 
 use crate::bodies::run_body;
+use crate::body::read_body;
+use crate::demand::{Taken, take_request};
 use crate::reads::Desk;
 use crate::replies::show;
 use crate::responses::{ENDED, GO_ON, refusal};
@@ -23,7 +25,6 @@ use mm_definitions::answers::{PageFault, RunFault, Tally};
 use mm_definitions::moments::Moment;
 use mm_definitions::names::Name;
 use mm_definitions::streams::Io;
-use mm_gate::{Taken, read_body, take_request};
 use mm_page::{MOST_HEAD_BYTES, MOST_HEAD_LINES, read_head};
 use std::alloc::Global;
 use std::io::{Read, Write};

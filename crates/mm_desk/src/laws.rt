@@ -1,14 +1,24 @@
-//! A desk's sitting, list by list, as a law.
+//! What a head demands, and a desk's sitting list by list, as laws.
 
 ghost use Rattle.std.specs.Prelude.{◌≡◌, ℕ, List, false};
+ghost use Rattle.http1.specs.Fields.{Header};
+ghost use Rattle.mm_definitions.specs.Keys.{Text};
 ghost use Rattle.mm_definitions.specs.Package.{Package};
 ghost use Rattle.mm_definitions.specs.Runs.{Call};
 ghost use Rattle.mm_run.specs.Applied.{IsSound};
 ghost use Rattle.mm_run.specs.Runs.{AreFirstParts};
 ghost use Rattle.mm_run.specs.Sessions.{shown};
+ghost use Rattle.mm_desk.specs.Demand.{Demand, IsDemand};
 ghost use Rattle.mm_desk.specs.Sittings.{IsSitting, Sat, Visit};
 
 use mm_run::Apply;
+
+/// A head has one demand: no line of the table clashes with another.
+pub fn one_demand()
+    ensures { (port minor : ℕ) (front method target : Text) (fields : List Header) (d e : Demand)
+        → IsDemand port front method target fields minor d
+        → IsDemand port front method target fields minor e → d ≡ e }
+{}
 
 /// A sitting is one run of its lists, one behind another: where a session was settled for a package that meets the rules, then behind any
 /// number of lists, with reads between them, each database that a crash may leave stands for a first part of all their accepted commands,

@@ -7,12 +7,12 @@ ghost use Rattle.mm_staging.specs.Outlines.{with_bytes};
 ghost use Rattle.mm_layout.specs.Handed.{Lends, LendsFor, LendsUnstamped};
 ghost use Rattle.mm_edition.specs.Turns.{HoldsPiece, TakesTurn};
 
+use mm_content::{drop_media, drop_row, drop_tile, put_media_of_piece, put_row, put_tile_of_piece};
 use mm_definitions::answers::{Fault, Outcome};
 use mm_definitions::names::Name;
 use mm_definitions::refusals::Reason;
-use mm_items::{drop_media, drop_row, drop_tile, put_media_of_piece, put_row, put_tile_of_piece};
 use mm_meta::add_matrix;
-use mm_relations::{add_map, drop_map};
+use mm_relate::{add_map, drop_map};
 use mm_staging::{Outline, outline_of};
 use sqlite::{Alter, Transaction};
 

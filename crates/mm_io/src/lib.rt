@@ -1,6 +1,11 @@
 //! Records in, lines out: what the run of a list, the import of a kit and the page share. The records of some bytes
 //! are read by `csv` from a reader that is lent and handed back; the line of an answer is built in place; bytes are
 //! written whole and flushed, and what was taken is known where the writer fails.
+//!
+//! - `lending`: a reader is lent to `csv` and comes back.
+//! - `records`, `ends`: the next record, and the end of the input.
+//! - `lines`: the line of an answer.
+//! - `sending`: bytes written whole.
 #![tactic(auto)]
 
 mod ends;

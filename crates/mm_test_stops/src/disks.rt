@@ -1,7 +1,7 @@
 //! Files in memory whose calls fail as a test plans.
 
 use crate::cases::Start;
-use mm_faults::{Lapse, Plan};
+use mm_test_disk::{Lapse, Plan};
 use mm_test_packages::{answers, create};
 use sqlite::{Alter, Connection, FileStore, Files, Options};
 use sqlite_disk::{Crash, Disk, Memory};

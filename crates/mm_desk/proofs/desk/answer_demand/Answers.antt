@@ -1,6 +1,6 @@
 use Rattle.std.proofs.Common.{◌≡◌, ◌∙◌, refl, rules, subst}
 use Rattle.mm_definitions.specs.Streams.{has_failed, inside, written}
-use Rattle.mm_gate.specs.Demand.{End, Refuse}
+use Rattle.mm_desk.specs.Demand.{End, Refuse}
 use Rattle.mm_desk.specs.Answered.{page_of}
 use Rattle.mm_desk.specs.Responses.{refusal_of}
 use Rattle.mm_desk.specs.Sent.{IsCut}

@@ -2,7 +2,7 @@ use Rattle.std.proofs.Common.{◌≡◌, ◌-◌, ◌∙◌, arith, inl, inr, re
 use Rattle.std.proofs.lemmas.List.{length-drop, take_all}
 use Rattle.std.specs.Io.KnownBytes.{Consumes}
 use Rattle.mm_definitions.specs.Streams.{has_failed, inside, written}
-use Rattle.mm_gate.specs.Demand.{demanded}
+use Rattle.mm_desk.specs.Demand.{demanded}
 use Rattle.mm_page.specs.Heads.{IsNeeded, MostHeadBytes}
 use Rattle.mm_page.proofs.ServeFacts.{err_so, ok_so}
 use Rattle.mm_desk.specs.Answered.{Demands, IsHeadless, page_of}

@@ -1,3 +1,0 @@
-mod DemandFacts
-mod FieldFacts
-mod OneDemand

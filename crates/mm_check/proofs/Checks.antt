@@ -1,5 +1,6 @@
 -- A check of the form by a walk, and checks one after another.
-use Rattle.std.proofs.Common.{◌≡◌, ◌↔◌, ℕ, List, [], Bool, true, false, IsTrue, Result, Ok, Err, IfOk, OnOk, refl, sym, subst, ◌∙◌, arith}
+use Rattle.std.proofs.Common.{◌≡◌, ◌↔◌, ℕ, List, [], Bool, true, false, IsTrue, Option, Some, None, Result, Ok, Err, IfOk}
+use Rattle.std.proofs.Common.{OnOk, refl, sym, subst, ◌∙◌, arith}
 use Rattle.sql_forms.specs.Key.{Key}
 use Rattle.sqlite.specs.Order.{Row}
 use Rattle.sql_forms.specs.Term.{Term}
@@ -10,11 +11,11 @@ use Rattle.mm_definitions.specs.declared.answers.Fault.{Fault}
 use Rattle.mm_store.specs.Kept.{Kept}
 use Rattle.mm_store.proofs.Seen.{settled_still}
 use Rattle.mm_store.proofs.Quiet.{quiet_then}
-use Rattle.mm_walk.specs.RowTests.{IsQuery, AllShown, TellsAll}
+use Rattle.mm_walk.specs.RowTests.{IsQuery, AllShown, NotesAll, TellsAll, whether}
 use Rattle.mm_walk.proofs.Quiet.{IsQuiet, only_asks}
 use Rattle.mm_walk.proofs.Resting.{seen_still}
 use Rattle.mm_store.specs.Tables.{schema}
-use Rattle.mm_check.specs.Form.{KeepsAs, IsFormCheck}
+use Rattle.mm_check.specs.Form.{AreShort, KeepsAs, IsFormCheck, TellsLongest}
 
 -- what is shown says the form
 abbrev pub SaysForm : Row → Join → List Term → List Term → (Row → Type 0) → (Kept → Type 0) → Type 0
@@ -53,6 +54,40 @@ module _ (sql : List ℕ) (good : Row → Type 0) (from : Join) (terms project :
   -- the parameters as the call gives them
   pub forms : (given : Row) → given ≡ [] → (result : Result Bool Fault) → TellsAll sql given good old new result → IsFormCheck old new Form result
   forms given same result h = formed result (subst (λ p. TellsAll sql p good old new result) same h)
+
+-- a check that notes how long the longest is of what is shown
+module _ {T : Type 0} (sql : List ℕ) (good : Row → Type 0) (noted : T → Row → Type 0) (from : Join)
+    (terms project : List Term) (order : List (Term × Key)) (names : List (List ℕ))
+    (it : IsQuery schema sql from terms project order names) (quiet : IsQuiet sql)
+    (Form : Kept → Type 0) (says : SaysForm [] from terms project good Form) (longest_of : T → ℕ)
+    (short : (t : T) → SaysForm [] from terms project (noted t) (AreShort (longest_of t))) (old new : State) where
+  module _ (given : Row) (same : given ≡ []) where
+    noted_of : {result : Result (Option T) Fault} → NotesAll sql given good noted old new result
+        → NotesAll sql [] good noted old new result
+    noted_of {result} h = subst (λ p. NotesAll sql p good noted old new result) same h
+
+    form_of : {result : Result (Option T) Fault} → NotesAll sql given good noted old new result
+        → IsFormCheck old new Form (whether result)
+    form_of {result} h =
+        formed sql good from terms project order names it quiet Form says old new (whether result) (noted_of h).tests
+
+    pub longest_told : (t : T) → NotesAll sql given good noted old new (Ok (Some t))
+        → TellsLongest old new Form (Ok (Some (longest_of t)))
+    longest_told t h = record {
+      form = form_of h;
+      longest = λ clean kept keeps.
+          let n = noted_of h in
+          let still = n.tests.same clean (only_asks sql quiet old.now.schema) in
+          let at = keeps still.0.was_open in
+          (short t old.now kept at).0 (n.notes clean schema at.schema_is from terms project order names it);
+    }
+
+    pub none_told : NotesAll sql given good noted old new (Ok None) → TellsLongest old new Form (Ok None)
+    none_told h = record { form = form_of h; longest = λ clean kept keeps. tt }
+
+    pub not_told : (fault : Fault) → NotesAll sql given good noted old new (Err fault)
+        → TellsLongest old new Form (Err fault)
+    not_told fault h = record { form = form_of h; longest = λ clean kept keeps. tt }
 
 -- ---- one after another
 
@@ -117,3 +152,37 @@ gives_up old new A C r fault is one = let h = subst (IsFormCheck old new A) is o
           λ clean kept keeps. tt;
       faults = h.faults;
     }
+
+-- ---- the same with how many bytes the longest has
+
+module _ (old mid new : State) (A B C : Kept → Type 0) (alike : (kept : Kept) → (A kept × B kept) ↔ C kept)
+    (longest : ℕ) (one : TellsLongest old mid A (Ok (Some longest))) where
+  pub longest_stands : {b : Bool} → b ≡ true → IsFormCheck mid new B (Ok b)
+      → TellsLongest old new C (Ok (Some longest))
+  longest_stands holds two = record {
+    form = goes_on old mid new A B C alike (Ok true) (Ok true) refl refl one.form
+        (subst (λ b. IsFormCheck mid new B (Ok b)) holds two);
+    longest = λ clean kept keeps. one.longest (omega (arith, two.survives.clean)) kept keeps;
+  }
+
+  pub longest_fails : {b : Bool} → b ≡ false → IsFormCheck mid new B (Ok b) → TellsLongest old new C (Ok None)
+  longest_fails fails two = record {
+    form = goes_on old mid new A B C alike (Ok true) (Ok false) refl refl one.form
+        (subst (λ b. IsFormCheck mid new B (Ok b)) fails two);
+    longest = λ clean kept keeps. tt;
+  }
+
+  pub longest_cut : (fault : Fault) → IsFormCheck mid new B (Err fault) → TellsLongest old new C (Err fault)
+  longest_cut fault two = record {
+    form = goes_on old mid new A B C alike (Ok true) (Err fault) refl refl one.form two;
+    longest = λ clean kept keeps. tt;
+  }
+
+module _ (old new : State) (A B C : Kept → Type 0) (alike : (kept : Kept) → (A kept × B kept) ↔ C kept) where
+  pub longest_none : TellsLongest old new A (Ok None) → TellsLongest old new C (Ok None)
+  longest_none one =
+      record { form = stops old new A B C alike (Ok false) refl refl one.form; longest = λ clean kept keeps. tt }
+
+  pub longest_unknown : (fault : Fault) → TellsLongest old new A (Err fault) → TellsLongest old new C (Err fault)
+  longest_unknown fault one =
+      record { form = gives_up old new A C (Err fault) fault refl one.form; longest = λ clean kept keeps. tt }

@@ -38,7 +38,8 @@ use Rattle.mm_walk.specs.RowTests.{OnTrue}
 use Rattle.mm_walk.proofs.Joined.{as_whole, covered_whole, each_row, joined}
 use Rattle.mm_walk.proofs.Keys.{tie, texts_are, number_is, less_is, on_true, same}
 use Rattle.mm_walk.proofs.Named.{null_equals, equals_null, JoinsBlob, also}
-use Rattle.mm_check.specs.Form.{KeepsAs, IsDigestedRow, AreDigested, AreApart, AreNamed, AreInForm}
+use Rattle.mm_check.specs.Form.{KeepsAs, IsDigestedRow, IsShortRow, AreDigested, AreApart, AreNamed, AreInForm}
+use Rattle.mm_check.specs.Form.{AreShort}
 use Rattle.mm_check.proofs.Queries.{two_twice, equal_terms, no_names, by_tiles, by_media, by_pieces}
 use Rattle.mm_check.proofs.Checks.{SaysForm}
 
@@ -46,6 +47,11 @@ use Rattle.mm_check.proofs.Checks.{SaysForm}
 
 pub digested : SaysForm [] (inner 27 end) [] (col 1 2 ∷ col 1 3 ∷ []) IsDigestedRow AreDigested
 digested db kept h = each_row as_whole blob_row (db.trees 27) kept.shelf (covered_whole h.blobs) _ _ (λ id b x. same)
+
+pub short : (longest : ℕ)
+    → SaysForm [] (inner 27 end) [] (col 1 2 ∷ col 1 3 ∷ []) (IsShortRow longest) (AreShort longest)
+short longest db kept h =
+    each_row as_whole blob_row (db.trees 27) kept.shelf (covered_whole h.blobs) _ _ (λ id b x. same)
 
 -- ---- two of one digest
 

@@ -10,61 +10,99 @@ use Rattle.mm_store.specs.Seen.{IsSeenAs}
 use Rattle.mm_walk.specs.Check.{IsCheck}
 use Rattle.mm_walk.proofs.Compose.{as_told, same_rule}
 use Rattle.mm_walk.specs.InTurn.{HasPassed}
-use Rattle.mm_check.specs.Verdict.{rule, Before, IsVerdict, IsVerified}
+use Rattle.mm_check.specs.Verdict.{rule, Before, IsVerdict, IsVerifiedWhere}
 use Rattle.mm_walk.proofs.InTurn.{none_below, one_more, first_passes, next_passes, still_shown, asked_alone, all_passed}
 
 one_more_rule : (profile : Profile) (p : Package) (k : ℕ) → Before profile k p → rule profile k p → Before profile (k + 1) p
 one_more_rule profile p k before here = (before.0, one_more (rule profile) p k before.1 here)
 
-module _ (profile : Profile) (old new : State) where
+module _ (profile : Profile) (Known : Package → Type 0) (old new : State) where
   -- a check that told of its rule, as the whole one
-  verified : (Rule : Package → Type 0) (b : Bool) (verdict : Option ℕ) → IsCheck profile old new (λ _. ⊤) Rule (Ok b)
-      → (HasCleanDisk new → (p : Package) → IsSeenAs profile old p → IsVerdict profile p verdict) → IsVerified profile old new (Ok verdict)
-  verified Rule b verdict c says = record { mode = c.mode; survives = c.survives; is_open = c.is_open; seen = c.seen; settled = c.settled; says = says; faults = tt }
+  verified : (Rule : Package → Type 0) (b : Bool) (verdict : Option ℕ) → IsCheck profile old new Known Rule (Ok b)
+      → (HasCleanDisk new → (p : Package) → IsSeenAs profile old p → Known p → IsVerdict profile p verdict)
+      → IsVerifiedWhere profile Known old new (Ok verdict)
+  verified Rule b verdict c says = record {
+    mode = c.mode;
+    survives = c.survives;
+    is_open = c.is_open;
+    seen = c.seen;
+    settled = c.settled;
+    says = says;
+    faults = tt;
+  }
 
   -- and one that failed
-  fails : (Known Rule : Package → Type 0) (r : Result Bool Fault) (fault : Fault) → r ≡ Err fault → IsCheck profile old new Known Rule r
-      → IsVerified profile old new (Err fault)
-  fails Known Rule r fault is h =
+  fails : (Rule : Package → Type 0) (r : Result Bool Fault) (fault : Fault) → r ≡ Err fault
+      → IsCheck profile old new Known Rule r → IsVerifiedWhere profile Known old new (Err fault)
+  fails Rule r fault is h =
       let c = subst (IsCheck profile old new Known Rule) is h in
-      record { mode = c.mode; survives = c.survives; is_open = λ clean. tt; seen = c.seen; settled = c.settled; says = λ clean p s. tt; faults = c.faults }
+      record {
+        mode = c.mode;
+        survives = c.survives;
+        is_open = λ clean. tt;
+        seen = c.seen;
+        settled = c.settled;
+        says = λ clean p s known. tt;
+        faults = c.faults;
+      }
 
-  pub limits_pass : (r : Result Bool Fault) {b : Bool} → r ≡ Ok b → b ≡ true → IsCheck profile old new (λ _. ⊤) (λ p. Limits profile p) r
-      → HasPassed profile old new ⊤ (Before profile 1)
+  pub limits_pass : (r : Result Bool Fault) {b : Bool} → r ≡ Ok b → b ≡ true
+      → IsCheck profile old new Known (λ p. Limits profile p) r → HasPassed profile Known old new ⊤ (Before profile 1)
   unfolding rule
-  limits_pass r is told h = first_passes profile old new ⊤ (Before profile 1) (λ p. Limits profile p) (λ p holds. (holds, none_below (rule profile) p)) r is told h
+  limits_pass r is told h =
+      first_passes profile Known old new ⊤ (Before profile 1) (λ p. Limits profile p)
+      (λ p holds. (holds, none_below (rule profile) p)) r is told h
 
-  pub limits_stop : (r : Result Bool Fault) {b : Bool} → r ≡ Ok b → b ≡ false → IsCheck profile old new (λ _. ⊤) (λ p. Limits profile p) r
-      → IsVerified profile old new (Ok (Some 16))
+  pub limits_stop : (r : Result Bool Fault) {b : Bool} → r ≡ Ok b → b ≡ false
+      → IsCheck profile old new Known (λ p. Limits profile p) r → IsVerifiedWhere profile Known old new (Ok (Some 16))
   unfolding rule
   limits_stop r {b} is told h =
-      let c = as_told profile old new (λ _. ⊤) (λ p. Limits profile p) r b false is told h in
-      verified (λ p. Limits profile p) false (Some 16) c (λ clean p s. inl (refl, λ it. let e : false ≡ true = (c.says clean p s tt).1 it in absurd (let f : false ≡ true = e in cc)))
+      let c = as_told profile old new Known (λ p. Limits profile p) r b false is told h in
+      verified (λ p. Limits profile p) false (Some 16) c (λ clean p s known. inl (
+        refl,
+        λ it.
+            let e : false ≡ true = (c.says clean p s known).1 it in absurd (let f : false ≡ true = e in cc),
+      ))
 
-  pub limits_fail : (r : Result Bool Fault) (fault : Fault) → r ≡ Err fault → IsCheck profile old new (λ _. ⊤) (λ p. Limits profile p) r
-      → IsVerified profile old new (Err fault)
-  limits_fail r fault is h = fails (λ _. ⊤) (λ p. Limits profile p) r fault is h
+  pub limits_fail : (r : Result Bool Fault) (fault : Fault) → r ≡ Err fault
+      → IsCheck profile old new Known (λ p. Limits profile p) r → IsVerifiedWhere profile Known old new (Err fault)
+  limits_fail r fault is h = fails (λ p. Limits profile p) r fault is h
 
-module _ (profile : Profile) (old mid new : State) (k : ℕ) (low : 1 ≤ k) (high : k < 16) (so_far : HasPassed profile old mid ⊤ (Before profile k)) where
-  pub rule_passes : (r : Result Bool Fault) {b : Bool} → r ≡ Ok b → b ≡ true → IsCheck profile mid new (Before profile k) (rule profile k) r
-      → HasPassed profile old new ⊤ (Before profile (k + 1))
-  rule_passes r is told h = next_passes profile old mid new ⊤ (Before profile k) (Before profile k) (rule profile k)
-      (λ p before. before) so_far (Before profile (k + 1)) ⊤ (λ p before here. one_more_rule profile p k before here) r is told h
+module _ (profile : Profile) (Known : Package → Type 0) (old mid new : State) (k : ℕ) (low : 1 ≤ k) (high : k < 16)
+    (so_far : HasPassed profile Known old mid ⊤ (Before profile k)) where
+  pub rule_passes : (r : Result Bool Fault) {b : Bool} → r ≡ Ok b → b ≡ true
+      → IsCheck profile mid new (Before profile k) (rule profile k) r
+      → HasPassed profile Known old new ⊤ (Before profile (k + 1))
+  rule_passes r is told h =
+      next_passes profile Known old mid new ⊤ (Before profile k) (Before profile k) (rule profile k)
+      (λ p known before. before) so_far (Before profile (k + 1)) ⊤
+      (λ p before here. one_more_rule profile p k before here) r is told h
 
-  alone : (r : Result Bool Fault) → IsCheck profile mid new (Before profile k) (rule profile k) r → IsCheck profile old new (λ _. ⊤) (rule profile k) r
-  alone r h = asked_alone profile old mid new ⊤ (Before profile k) (Before profile k) (rule profile k) (λ p before. before) so_far r h
+  alone : (r : Result Bool Fault) → IsCheck profile mid new (Before profile k) (rule profile k) r
+      → IsCheck profile old new Known (rule profile k) r
+  alone r h = asked_alone profile Known old mid new ⊤ (Before profile k) (Before profile k) (rule profile k)
+      (λ p known before. before) so_far r h
 
-  pub rule_stops : (r : Result Bool Fault) {b : Bool} → r ≡ Ok b → b ≡ false → IsCheck profile mid new (Before profile k) (rule profile k) r
-      → IsVerified profile old new (Ok (Some k))
+  pub rule_stops : (r : Result Bool Fault) {b : Bool} → r ≡ Ok b → b ≡ false
+      → IsCheck profile mid new (Before profile k) (rule profile k) r
+      → IsVerifiedWhere profile Known old new (Ok (Some k))
   rule_stops r {b} is told h =
-      let c = as_told profile old new (λ _. ⊤) (rule profile k) r b false is told (alone r h) in
-      verified profile old new (rule profile k) false (Some k) c (λ clean p s.
-      let before = still_shown profile old mid new ⊤ (Before profile k) (Before profile k) (rule profile k) (λ p before. before) so_far r h clean p s in
-      inr (low, high, before, λ it. let e : false ≡ true = (c.says clean p s tt).1 it in absurd (let f : false ≡ true = e in cc)))
+      let c = as_told profile old new Known (rule profile k) r b false is told (alone r h) in
+      verified profile Known old new (rule profile k) false (Some k) c (λ clean p s known.
+      let before = still_shown profile Known old mid new ⊤ (Before profile k) (Before profile k) (rule profile k)
+      (λ p known before. before) so_far r h clean p s known in
+      inr (
+        low,
+        high,
+        before,
+        λ it.
+            let e : false ≡ true = (c.says clean p s known).1 it in absurd (let f : false ≡ true = e in cc),
+      ))
 
-  pub rule_fails : (r : Result Bool Fault) (fault : Fault) → r ≡ Err fault → IsCheck profile mid new (Before profile k) (rule profile k) r
-      → IsVerified profile old new (Err fault)
-  rule_fails r fault is h = fails profile old new (λ _. ⊤) (rule profile k) r fault is (alone r h)
+  pub rule_fails : (r : Result Bool Fault) (fault : Fault) → r ≡ Err fault
+      → IsCheck profile mid new (Before profile k) (rule profile k) r
+      → IsVerifiedWhere profile Known old new (Err fault)
+  rule_fails r fault is h = fails profile Known old new (rule profile k) r fault is (alone r h)
 
 each_meets : (profile : Profile) (p : Package) → Before profile 16 p → Meets profile p
 unfolding rule
@@ -88,11 +126,14 @@ each_meets profile p t = record {
 }
 
 -- each has passed
-pub all_pass : (profile : Profile) (old new : State) (k : ℕ) → k ≡ 16 → HasPassed profile old new ⊤ (Before profile k) → IsVerified profile old new (Ok None)
-all_pass profile old new k is passed =
-    let h = subst (λ n. HasPassed profile old new ⊤ (Before profile n)) is passed in
-    let c = all_passed profile old new ⊤ (Before profile 16) (Before profile 16) tt (λ p. (λ before. before, λ before. before)) h in
-    verified profile old new (Before profile 16) true None c (λ clean p s. each_meets profile p (h.says clean p s))
+pub all_pass : (profile : Profile) (Known : Package → Type 0) (old new : State) (k : ℕ) → k ≡ 16
+    → HasPassed profile Known old new ⊤ (Before profile k) → IsVerifiedWhere profile Known old new (Ok None)
+all_pass profile Known old new k is passed =
+    let h = subst (λ n. HasPassed profile Known old new ⊤ (Before profile n)) is passed in
+    let c = all_passed profile Known old new ⊤ (Before profile 16) (Before profile 16) tt
+    (λ p. (λ before. before, λ before. before)) h in
+    verified profile Known old new (Before profile 16) true None c
+    (λ clean p s known. each_meets profile p (h.says clean p s known))
 
 pub as_rule : (profile : Profile) (old new : State) (Known : Package → Type 0) (Rule : Package → Type 0) (k n : ℕ) → k ≡ n
     → ((p : Package) → Before profile n p → Known p) → ((p : Package) → Rule p ↔ rule profile n p) → (r : Result Bool Fault)

@@ -1,5 +1,6 @@
 -- What form the blobs of a database have, and what a check of it does.
-use Rattle.std.specs.Prelude.{◌≡◌, ◌≢◌, ◌↔◌, ℕ, ℤ, ◌<ℤ◌, Bool, false, List, [], ◌∷◌, Option, Some, IsTrue, Result, Ok, Err, IfOk, IfErr, OnOk, ⊤}
+use Rattle.std.specs.Prelude.{◌≡◌, ◌≢◌, ◌↔◌, ◌≤◌, ℕ, ℤ, ◌<ℤ◌, Bool, false, List, [], ◌∷◌, length, Option, Some, IfSome}
+use Rattle.std.specs.Prelude.{IsTrue, Result, Ok, Err, IfOk, IfErr, OnOk, ⊤}
 use Rattle.std.specs.FinMap.{get}
 use Rattle.sqlite.specs.Order.{Row, column}
 use Rattle.sqlite.specs.Tree.{Trees}
@@ -26,6 +27,7 @@ use Rattle.mm_store.specs.Seen.{IsSeenAs}
 use Rattle.mm_store.specs.Stands.{IsSettled, ReadsAs, profile_row}
 use Rattle.mm_store.specs.Statements.{CommitsNothing}
 use Rattle.mm_walk.specs.Columns.{text_bytes, bytes_of}
+use Rattle.mm_walk.specs.RowTests.{whether}
 
 -- The four tables hold these entries that name blobs, and these blobs, whatever form they have.
 pub record KeepsAs (db : Database) (kept : Kept) : Type 0 where
@@ -58,6 +60,14 @@ AreApart kept = (i : ℤ) (b : Blob) → get kept.shelf i ≡ Some b → (j : �
 -- each is named
 abbrev pub AreNamed : Kept → Type 0
 AreNamed kept = (id : ℤ) (b : Blob) → get kept.shelf id ≡ Some b → IsNamed kept id
+
+-- no blob has more bytes than this
+abbrev pub AreShort : ℕ → Kept → Type 0
+AreShort longest kept = (id : ℤ) (b : Blob) → get kept.shelf id ≡ Some b → length b.bytes ≤ longest
+
+-- the bytes are no more than this
+abbrev pub IsShortRow : ℕ → Row → Type 0
+IsShortRow longest r = IfSome (bytes_of (column r 1)) (λ bytes. length bytes ≤ longest)
 
 -- the form: the blobs are those that bytes kept once should have, and each is named
 abbrev pub AreInForm : Kept → Type 0
@@ -101,6 +111,12 @@ pub record IsFormCheck (old new : State) (Form : Kept → Type 0) (result : Resu
   pub settled : HasCleanDisk new → (profile : Profile) (p : Package) → IsSettled profile old p → IsSettled profile new p
   pub says : HasCleanDisk new → (kept : Kept) → (IsTrue old.is_open → KeepsAs old.now kept) → IfOk result (λ b. IsTrue b ↔ Form kept)
   pub faults : IfErr result IsStoreFault
+
+-- It tells whether the blobs have the form, and where they have, how many bytes the longest has.
+pub record TellsLongest (old new : State) (Form : Kept → Type 0) (result : Result (Option ℕ) Fault) : Type 0 where
+  pub form : IsFormCheck old new Form (whether result)
+  pub longest : HasCleanDisk new → (kept : Kept) → (IsTrue old.is_open → KeepsAs old.now kept)
+      → IfOk result (λ told. IfSome told (λ longest. AreShort longest kept))
 
 -- Where all else is as it should be, the form is what tells whether the database reads as the package.
 abbrev pub DecidesReading : State → State → Result Bool Fault → Type 0

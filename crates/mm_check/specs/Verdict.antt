@@ -1,5 +1,5 @@
 -- Which rule a package breaks first, and what the whole check answers.
-use Rattle.std.specs.Prelude.{◌≡◌, ◌⊎◌, ℕ, ◌≤◌, ◌<◌, ◌==◌, false, Option, Some, None, Result, IfOk, IfErr, OnOk, IsTrue}
+use Rattle.std.specs.Prelude.{◌≡◌, ◌⊎◌, ℕ, ◌≤◌, ◌<◌, ◌==◌, false, Option, Some, None, Result, IfOk, IfErr, OnOk, IsTrue, ⊤}
 use Rattle.sqlite.specs.State.{State, HasCleanDisk}
 use Rattle.mm_definitions.specs.Bounds.{Profile}
 use Rattle.mm_definitions.specs.Package.{Package}
@@ -46,13 +46,19 @@ abbrev pub IsVerdict : Profile → Package → Option ℕ → Type 0
 IsVerdict profile p None = Meets profile p
 IsVerdict profile p (Some k) = IsFailing profile p k
 
--- It opens no transaction, writes nothing, and leaves the connection reading as before, and settled where it was. It answers which rule the
--- package breaks that the connection reads as; where it does, the store is open. No fault is a rule's.
-pub record IsVerified (profile : Profile) (old new : State) (result : Result (Option ℕ) Fault) : Type 0 where
+-- It opens no transaction, writes nothing, and leaves the connection reading as before, and settled where it was. It
+-- answers which rule the package breaks that the connection reads as, which is known to meet `Known`; where it does, the
+-- store is open. No fault is a rule's.
+pub record IsVerifiedWhere (profile : Profile) (Known : Package → Type 0) (old new : State)
+    (result : Result (Option ℕ) Fault) : Type 0 where
   pub mode : old.in_transaction ≡ false → new.in_transaction ≡ false
   pub survives : CommitsNothing old new
   pub is_open : HasCleanDisk new → OnOk result (IsTrue new.is_open)
   pub seen : HasCleanDisk new → (p : Package) → IsSeenAs profile old p → IsSeenAs profile new p
   pub settled : HasCleanDisk new → (p : Package) → IsSettled profile old p → IsSettled profile new p
-  pub says : HasCleanDisk new → (p : Package) → IsSeenAs profile old p → IfOk result (IsVerdict profile p)
+  pub says : HasCleanDisk new → (p : Package) → IsSeenAs profile old p → Known p → IfOk result (IsVerdict profile p)
   pub faults : IfErr result IsStoreFault
+
+-- the same of any package
+abbrev pub IsVerified : Profile → State → State → Result (Option ℕ) Fault → Type 0
+IsVerified profile = IsVerifiedWhere profile (λ _. ⊤)

@@ -4,12 +4,14 @@ ghost use Rattle.std.specs.Prelude.{◌≡◌, ◌≢◌, ◌↔◌, [], IsTrue}
 ghost use Rattle.sqlite.specs.Held.{state};
 ghost use Rattle.sqlite.specs.State.{HasCleanDisk};
 ghost use Rattle.mm_store.specs.Blobs as spec;
-ghost use Rattle.mm_check.specs.Form.{IsDigestedRow, AreDigested, AreApart, AreNamed, AreInForm, IsFormCheck, DecidesReading};
+ghost use Rattle.mm_walk.specs.RowTests.{whether};
+ghost use Rattle.mm_check.specs.Form.{IsDigestedRow, IsShortRow, AreDigested, AreApart, AreNamed, AreInForm};
+ghost use Rattle.mm_check.specs.Form.{IsFormCheck, DecidesReading, TellsLongest};
 
 use mm_blobs::digests::digest_of;
 use mm_definitions::answers::Fault;
 use mm_walk::columns::{blob, words};
-use mm_walk::row_tests::{RowTest, each_passes};
+use mm_walk::row_tests::{NotingTest, RowTest, each_noted, each_passes};
 use sqlite::{Alter, Connection, Row};
 
 /// Whether the digits are the digest of some bytes, of which there are some.
@@ -20,15 +22,23 @@ fn is_digest(digits: &[u8], bytes: &[u8]) -> bool
     !bytes.is_empty() && digits == digest.as_slice()
 }
 
-/// A digest and the bytes that it is to be of.
-struct Digested;
+/// A digest and the bytes that it is to be of, and how many the longest had.
+#[derive(Clone, Copy)]
+struct Digested {
+    longest: usize,
+}
 
-impl RowTest for Digested {
-    ghost good = { λ _ row. IsDigestedRow row };
+impl NotingTest for Digested {
+    ghost good = { λ row. IsDigestedRow row };
 
-    fn passes(&self, row: &Row) -> bool {
+    ghost noted = { λ it row. IsShortRow it.longest row };
+
+    fn passes(&mut self, row: &Row) -> bool {
         match (words(row, 0), blob(row, 1)) {
-            (Some(digits), Some(bytes)) => is_digest(digits, bytes),
+            (Some(digits), Some(bytes)) => {
+                self.longest = self.longest.max(bytes.len());
+                is_digest(digits, bytes)
+            }
             _ => false,
         }
     }
@@ -45,16 +55,16 @@ impl RowTest for Never {
     }
 }
 
-/// Of the form of the blobs, that each digest is right and no blob is empty.
-pub fn blobs_are_digested<S: Alter>(conn: &mut Connection<S>) -> Result<bool, Fault>
-    ensures { IsFormCheck (state S.Store conn.old) (state S.Store conn.new) AreDigested result }
+/// Of the form of the blobs, that each digest is right and no blob is empty; and how many bytes the longest has.
+pub fn blobs_are_digested<S: Alter>(conn: &mut Connection<S>) -> Result<Option<usize>, Fault>
+    ensures { TellsLongest (state S.Store conn.old) (state S.Store conn.new) AreDigested result }
 {
-    each_passes(
-        conn,
-        "SELECT b.digest, b.data FROM mm_blobs AS b",
-        &[],
-        &Digested,
-    )
+    let text = "SELECT b.digest, b.data FROM mm_blobs AS b";
+    match each_noted(conn, text, &[], Digested { longest: 0 }) {
+        Ok(Some(all)) => Ok(Some(all.longest)),
+        Ok(None) => Ok(None),
+        Err(fault) => Err(fault),
+    }
 }
 
 /// Of the form of the blobs, that no two have one digest and hold the same bytes. Pairs of one digest come from the index
@@ -95,17 +105,20 @@ fn apart_and_named<S: Alter>(conn: &mut Connection<S>) -> Result<bool, Fault>
 }
 
 /// Whether the blobs of a database have their form: each digest is right, no blob is empty, no two hold the same bytes,
-/// and each is named. Where all else of a database is as a package asks, that is exactly where it stands for the package.
-/// It looks at one blob at a time, and writes nothing. A fault is 90 where memory was refused and 91
-/// where the store failed, and never stands for a form that fails.
-pub fn blobs_stand<S: Alter>(conn: &mut Connection<S>) -> Result<bool, Fault>
-    ensures form { IsFormCheck (state S.Store conn.old) (state S.Store conn.new) AreInForm result }
-    ensures decides { HasCleanDisk (state S.Store conn.new)
-        → DecidesReading (state S.Store conn.old) (state S.Store conn.new) result }
+/// and each is named; and where they have, how many bytes the longest has. Where all else of a database is as a package
+/// asks, the form is what tells whether it stands for the package. It looks at one blob at a time, and writes nothing. A
+/// fault is 90 where memory was refused and 91 where the store failed, and never stands for a form that fails.
+pub fn blobs_stand<S: Alter>(conn: &mut Connection<S>) -> Result<Option<usize>, Fault>
+    ensures form { TellsLongest (state S.Store conn.old) (state S.Store conn.new) AreInForm result }
+    ensures decides { HasCleanDisk (state S.Store conn.new) → DecidesReading
+        (state S.Store conn.old) (state S.Store conn.new) (whether result) }
 {
-    if blobs_are_digested(conn)? {
-        apart_and_named(conn)
+    let Some(longest) = blobs_are_digested(conn)? else {
+        return Ok(None);
+    };
+    if apart_and_named(conn)? {
+        Ok(Some(longest))
     } else {
-        Ok(false)
+        Ok(None)
     }
 }

@@ -4,10 +4,13 @@
 //! - `verdict`: `verify`, all rules in turn.
 //! - `form`: `blobs_stand`: each digest is right, no blob is empty, no two hold the same bytes, and each is named by a
 //!   tile, a medium or a staged piece. Each part is one query.
+//! - `whole`: `check_whole`, the one and then the other.
 #![tactic(auto)]
 
 pub mod form;
 pub mod verdict;
+mod whole;
 
 pub use form::blobs_stand;
 pub use verdict::verify;
+pub use whole::check_whole;

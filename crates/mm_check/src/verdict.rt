@@ -4,7 +4,8 @@ ghost use Rattle.std.specs.Prelude.{◌≤◌, ◌<◌};
 ghost use Rattle.sqlite.specs.Held.{state};
 ghost use Rattle.mm_walk.specs.Check.{IsCheck};
 ghost use Rattle.mm_definitions.specs.Units.{profile_of};
-ghost use Rattle.mm_check.specs.Verdict.{rule, Before, IsVerified};
+ghost use Rattle.mm_check.specs.Verdict.{rule, Before, IsVerified, IsVerifiedWhere};
+ghost use Rattle.mm_limits.specs.Longest.{AreFew};
 
 use mm_definitions::answers::{Fault, RuleNumber};
 use mm_definitions::units::Unit;
@@ -39,14 +40,17 @@ fn one_rule<S: Alter>(conn: &mut Connection<S>, unit: Unit, k: u8) -> Result<boo
     }
 }
 
-/// The whole check of the package that a connection with no transaction shows, whatever that package is: None where it
-/// meets all sixteen rules, 16 where rule 16 fails, else the least rule that fails. It writes nothing. A fault is 90 where
-/// memory was refused and 91 where the store failed, and never stands for a rule that fails.
-pub fn verify<S: Alter>(conn: &mut Connection<S>, unit: Unit) -> Result<Option<RuleNumber>, Fault>
-    ensures { IsVerified (profile_of unit)
+/// The whole check of the package that a connection with no transaction shows, where it is known how many bytes the
+/// longest tile or media item has, or nothing.
+pub(crate) fn verify_known<S: Alter>(
+    conn: &mut Connection<S>,
+    unit: Unit,
+    longest: Option<usize>,
+) -> Result<Option<RuleNumber>, Fault>
+    ensures { IsVerifiedWhere (profile_of unit) (AreFew longest)
         (state S.Store conn.old) (state S.Store conn.new) result }
 {
-    if !limits(conn, unit)? {
+    if !limits(conn, unit, longest)? {
         return Ok(Some(RuleNumber::LIMITS));
     }
     'rules: for k in 1..16u8 {
@@ -55,4 +59,14 @@ pub fn verify<S: Alter>(conn: &mut Connection<S>, unit: Unit) -> Result<Option<R
         }
     }
     Ok(None)
+}
+
+/// The whole check of the package that a connection with no transaction shows, whatever that package is: None where it
+/// meets all sixteen rules, 16 where rule 16 fails, else the least rule that fails. It writes nothing. A fault is 90 where
+/// memory was refused and 91 where the store failed, and never stands for a rule that fails.
+pub fn verify<S: Alter>(conn: &mut Connection<S>, unit: Unit) -> Result<Option<RuleNumber>, Fault>
+    ensures { IsVerified (profile_of unit)
+        (state S.Store conn.old) (state S.Store conn.new) result }
+{
+    verify_known(conn, unit, None)
 }

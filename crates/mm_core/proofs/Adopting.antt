@@ -16,20 +16,11 @@ use Rattle.mm_store.specs.Statements.{CommitsNothing}
 use Rattle.mm_meta.specs.Look.{AnswersLook, FindsNone, IsLooked, Agrees, ShowsProfile}
 use Rattle.mm_meta.proofs.Looking.{shows_profile, still_blank}
 use Rattle.mm_walk.proofs.Resting.{seen_still}
-use Rattle.mm_check.specs.Verdict.{IsVerified}
-use Rattle.mm_check.specs.Form.{AreInForm, IsFormCheck, BlobsStand, TellsForm}
-use Rattle.mm_check.proofs.Reading.{asked_stands, asked_fails, stand_as_before, fail_as_before, formed_for}
+use Rattle.mm_check.specs.Checked.{IsChecked, Judged, NoNumber, OnlyStoreFaults}
+use Rattle.mm_check.specs.Form.{TellsForm}
+use Rattle.mm_check.proofs.Reading.{told_as_before}
 use Rattle.mm_core.specs.Adopted.{IsAdopted, WasAdopted, IsOfThisVersion, Declines, DeclinesNone, TellsProfile, IsNotAdopted}
 use Rattle.std.specs.Prelude.{ℕ}
-
--- what is known of a database that passed the look and the form of its blobs
-pub record IsOpened (old new : State) : Type 0 where
-  pub survives : CommitsNothing old new
-  pub row : HasCleanDisk new → ShowsProfile current.version old
-  pub some : HasCleanDisk new → IsBlank old → ⊥
-  pub profile : HasCleanDisk new → IsOfThisVersion old
-  pub blobs : HasCleanDisk new → BlobsStand old
-  pub seen : HasCleanDisk new → (profile : Profile) (p : Package) → IsSeenAs profile old p → IsSeenAs profile new p
 
 -- so it is known of it later
 pub was_adopted : (old mid new : State) → IsAdopted old mid → (HasCleanDisk new → HasCleanDisk mid) → WasAdopted old new
@@ -119,109 +110,79 @@ look_failed old new why looked = record {
   none = λ clean it. none_declined old new why looked clean it (looked.none clean it);
 }
 
--- ---- the form of the blobs was asked
+-- ---- the package was checked
 
 unchanged_by : (old new : State) → AnswersLook old new (Ok tt) → IsUnchanged old new
 unchanged_by old new (inl it) = it.2
 unchanged_by old new (inr it) = absurd it.2
 
+module _ (old mid new : State) (looked : IsLooked old mid (Ok tt)) {r : Result (Unit {0}) Open}
+    (checked : IsChecked current mid new r) where
+  before : HasCleanDisk new → HasCleanDisk mid
+  before clean = omega (arith, clean, checked.survives.clean)
+
+  was_seen : HasCleanDisk new → (p : Package) → IsSeenAs current old p → IsSeenAs current mid p
+  was_seen clean p s = looked_seen old mid looked (before clean) current p s
+
+  checked_seen : HasCleanDisk new → (profile : Profile) (p : Package) → IsSeenAs profile old p → IsSeenAs profile new p
+  checked_seen clean profile p s =
+      let is = looked.agrees (before clean) profile.version p s.reads in
+      seen_same profile new p is
+      (checked.seen clean p (was_seen clean p (same_seen profile old p is s)))
+
+  checked_quiet : CommitsNothing old new
+  checked_quiet = quiet_then old mid new looked.survives checked.survives
+
+  told_of : HasCleanDisk new → TellsForm old r
+  told_of clean = told_as_before old mid (unchanged_by old mid (looked.answers (before clean))) r (checked.blobs clean)
+
+-- what a check tells that failed is told of a connection that is not adopted
+declines_as : (p : Package) (why : Open) → Judged current p (Err why) → Declines p why
+declines_as p (opens.Rule rule) it = it
+declines_as p (opens.Fault fault) it = tt
+declines_as p opens.BadBlobs it = absurd it
+declines_as p (opens.Version version) it = absurd it
+declines_as p opens.NoProfile it = absurd it
+declines_as p opens.BadProfile it = absurd it
+
+profile_as : (old new : State) (why : Open) → NoNumber (Err why) → OnlyStoreFaults (Err why)
+    → ShowsProfile current.version old → IsOfThisVersion old → TellsProfile old new why
+profile_as old new opens.BadBlobs none faults row is = (row, is)
+profile_as old new (opens.Rule rule) none faults row is = (row, is)
+profile_as old new (opens.Fault fault) none faults row is = faults
+profile_as old new (opens.Version version) none faults row is = absurd none
+profile_as old new opens.NoProfile none faults row is = absurd none
+profile_as old new opens.BadProfile none faults row is = absurd none
+
 module _ (old mid new : State) (looked : IsLooked old mid (Ok tt)) where
-  module _ {r : Result Bool Fault} (asked : IsFormCheck mid new AreInForm r) where
-    before : HasCleanDisk new → HasCleanDisk mid
-    before clean = omega (arith, clean, asked.survives.clean)
-
-    asked_seen : HasCleanDisk new → (profile : Profile) (p : Package) → IsSeenAs profile old p → IsSeenAs profile new p
-    asked_seen clean profile p s = asked.seen clean profile p (looked_seen old mid looked (before clean) profile p s)
-
-    asked_quiet : CommitsNothing old new
-    asked_quiet = quiet_then old mid new looked.survives asked.survives
-
-  pub form_failed : (fault : Fault) → IsFormCheck mid new AreInForm (Err fault) → IsNotAdopted old new (opens.Fault fault)
-  form_failed fault asked = record {
-    survives = asked_quiet asked;
-    profile = λ clean. asked.faults;
-    blobs = λ clean. tt;
-    seen = asked_seen asked;
-    settled = settled_as old new (asked_quiet asked) (asked_seen asked);
-    none = λ clean it. tt;
-    declines = λ clean p s. tt;
-  }
-
-  pub blobs_fail : IsFormCheck mid new AreInForm (Ok false) → IsNotAdopted old new opens.BadBlobs
-  blobs_fail asked =
-      let early = before asked in
+  pub adopts : IsChecked current mid new (Ok tt) → IsAdopted old new
+  adopts checked =
+      let early = before old mid new looked checked in
       record {
-        survives = quiet_then old mid new looked.survives asked.survives;
-        profile = λ clean. (shows_profile old mid (looked.answers (early clean)), looked.agrees (early clean));
-        blobs = λ clean. fail_as_before old mid (unchanged_by old mid (looked.answers (early clean))) (asked_fails mid new asked clean);
-        seen = asked_seen asked;
-        settled = settled_as old new (asked_quiet asked) (asked_seen asked);
-        none = λ clean it. absurd (looked.none (early clean) it);
-        declines = λ clean p s. formed_for current.version mid p (looked_seen old mid looked (early clean) current p s).reads (asked_fails mid new asked clean) (asked.same clean).0;
-      }
-
-  -- a database of this profile whose blobs have their form
-  pub opened : IsFormCheck mid new AreInForm (Ok true) → IsOpened old new
-  opened asked =
-      let early = before asked in
-      record {
-        survives = quiet_then old mid new looked.survives asked.survives;
+        survives = checked_quiet old mid new looked checked;
+        is_open = checked.is_open;
         row = λ clean. shows_profile old mid (looked.answers (early clean));
         some = λ clean it. looked.none (early clean) it;
         profile = λ clean. looked.agrees (early clean);
-        blobs = λ clean. stand_as_before old mid (unchanged_by old mid (looked.answers (early clean))) (asked_stands mid new asked clean);
-        seen = asked_seen asked;
+        blobs = told_of old mid new looked checked;
+        seen = λ clean. checked_seen old mid new looked checked clean current;
+        settled = λ clean. settled_as old new (checked_quiet old mid new looked checked)
+            (checked_seen old mid new looked checked) clean current;
+        meets = λ clean p s. checked.says clean p (was_seen old mid new looked checked clean p s);
       }
 
--- ---- the check was done
-
-module _ (old mid new : State) (opened : IsOpened old mid) where
-  module _ {r : Result (Option ℕ) Fault} (verified : IsVerified current mid new r) where
-    checked_seen : HasCleanDisk new → (profile : Profile) (p : Package) → IsSeenAs profile old p → IsSeenAs profile new p
-    checked_seen clean profile p s =
-        let early : HasCleanDisk mid = omega (arith, clean, verified.survives.clean) in
-        let is = opened.profile early profile.version p s.reads in
-        let was = opened.seen early profile p s in
-        seen_same profile new p is (verified.seen clean p (same_seen profile mid p is was))
-
-    checked_quiet : CommitsNothing old new
-    checked_quiet = quiet_then old mid new opened.survives verified.survives
-
-  pub adopts : IsVerified current mid new (Ok None) → IsAdopted old new
-  adopts verified =
-      let early : HasCleanDisk new → HasCleanDisk mid = λ clean. omega (arith, clean, verified.survives.clean) in
+  pub check_fails : (why : Open) → IsChecked current mid new (Err why) → IsNotAdopted old new why
+  check_fails why checked =
+      let early = before old mid new looked checked in
       record {
-        survives = quiet_then old mid new opened.survives verified.survives;
-        is_open = verified.is_open;
-        row = λ clean. opened.row (early clean);
-        some = λ clean it. opened.some (early clean) it;
-        profile = λ clean. opened.profile (early clean);
-        blobs = λ clean. opened.blobs (early clean);
-        seen = λ clean. checked_seen verified clean current;
-        settled = λ clean. settled_as old new (checked_quiet verified) (checked_seen verified) clean current;
-        meets = λ clean p s. verified.says clean p (opened.seen (early clean) current p s);
+        survives = checked_quiet old mid new looked checked;
+        profile = λ clean. profile_as old new why checked.no_number checked.faults
+            (shows_profile old mid (looked.answers (early clean))) (looked.agrees (early clean));
+        blobs = told_of old mid new looked checked;
+        seen = checked_seen old mid new looked checked;
+        settled = settled_as old new (checked_quiet old mid new looked checked)
+            (checked_seen old mid new looked checked);
+        declines = λ clean p s. declines_as p why
+            (checked.says clean p (was_seen old mid new looked checked clean p s));
+        none = λ clean it. absurd (looked.none (early clean) it);
       }
-
-  pub rule_fails : (rule : ℕ) → IsVerified current mid new (Ok (Some rule)) → IsNotAdopted old new (opens.Rule rule)
-  rule_fails rule verified =
-      let early : HasCleanDisk new → HasCleanDisk mid = λ clean. omega (arith, clean, verified.survives.clean) in
-      record {
-        survives = quiet_then old mid new opened.survives verified.survives;
-        profile = λ clean. (opened.row (early clean), opened.profile (early clean));
-        blobs = λ clean. opened.blobs (early clean);
-        seen = checked_seen verified;
-        settled = settled_as old new (checked_quiet verified) (checked_seen verified);
-        none = λ clean it. absurd (opened.some (early clean) it);
-        declines = λ clean p s. verified.says clean p (opened.seen (early clean) current p s);
-      }
-
-  pub check_failed : (fault : Fault) → IsVerified current mid new (Err fault) → IsNotAdopted old new (opens.Fault fault)
-  check_failed fault verified = record {
-    survives = quiet_then old mid new opened.survives verified.survives;
-    profile = λ clean. verified.faults;
-    blobs = λ clean. tt;
-    seen = checked_seen verified;
-    settled = settled_as old new (checked_quiet verified) (checked_seen verified);
-    none = λ clean it. tt;
-    declines = λ clean p s. tt;
-  }

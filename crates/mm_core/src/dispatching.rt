@@ -6,14 +6,14 @@ ghost use Rattle.mm_store.specs.Handed.{Applies};
 ghost use Rattle.mm_layout.specs.Handed.{Lends};
 ghost use Rattle.mm_core.specs.Handed.{TriesCommand};
 
+use mm_content::{drop_media, drop_row, drop_tile, put_media, put_row, put_tile};
 use mm_definitions::answers::{Fault, Outcome};
 use mm_definitions::commands::Command;
 use mm_definitions::extents::Bounds;
 use mm_definitions::places::TilePlace;
 use mm_edition::{discard, open_edition, publish, stage};
-use mm_items::{drop_media, drop_row, drop_tile, put_media, put_row, put_tile};
 use mm_meta::{add_matrix, add_pyramid, add_srs, add_table, drop_table};
-use mm_relations::{add_map, add_relation, drop_map, drop_relation};
+use mm_relate::{add_map, add_relation, drop_map, drop_relation};
 use sqlite::{Alter, Transaction};
 
 /// The commands that lay out reference systems and tables.

@@ -5,6 +5,12 @@
 //! records and answers each; `check` does the whole check again, and `list` writes the listing. What a crash may leave at
 //! each exit is stated by their contracts. `verify`, the whole check of a database, is handed on.
 //!
+//! - `session`: how a session begins, what it answers, and when it has to be opened again.
+//! - `applying`, `dispatching`: one command in a transaction of its own, and which function does it.
+//! - `running`: the run of a list.
+//! - `checking`, `listing`, `reading`: the whole check, the listing and the reads.
+//! - `editing`, `viewing`, `desking`: a session as what a kit, a page and a desk work on.
+//!
 //! # Example
 //!
 //! A package is made in memory, a command is applied, a list is run, and the session is closed:

@@ -3,7 +3,7 @@
 ghost use Rattle.std.specs.Prelude.{◌≡◌, false};
 
 use crate::applying::apply_once;
-use mm_check::{blobs_stand, verify};
+use mm_check::check_whole;
 use mm_definitions::answers::{Answer, Fault, Open, RunFault, Tally};
 use mm_definitions::commands::Command;
 use mm_definitions::moments::Moment;
@@ -81,19 +81,13 @@ impl<S: Alter> Session<S> {
             Ok(()) => {}
             Err(open) => return Err((conn, open)),
         }
-        match blobs_stand(&mut conn) {
-            Ok(true) => {}
-            Ok(false) => return Err((conn, Open::BadBlobs)),
-            Err(fault) => return Err((conn, Open::Fault(fault))),
-        }
-        match verify(&mut conn, CURRENT) {
-            Ok(None) => Ok(Session {
+        match check_whole(&mut conn, CURRENT) {
+            Ok(()) => Ok(Session {
                 conn,
                 alloc,
                 failed: false,
             }),
-            Ok(Some(rule)) => Err((conn, Open::Rule(rule))),
-            Err(fault) => Err((conn, Open::Fault(fault))),
+            Err(why) => Err((conn, why)),
         }
     }
 

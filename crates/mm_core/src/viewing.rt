@@ -6,7 +6,7 @@ ghost use Rattle.mm_core.specs.Parts as parts;
 
 use crate::session::Session;
 use mm_definitions::answers::Fault;
-use mm_definitions::entries::{Entry, Media, Related};
+use mm_definitions::entries::{Entry, Media, Related, Row};
 use mm_definitions::names::Name;
 use mm_definitions::places::TilePlace;
 use mm_reads::Viewer;
@@ -31,5 +31,9 @@ impl<S: Alter> Viewer for Session<S> {
 
     fn contents(&mut self) -> Result<Vec<Entry>, Fault> {
         self.contents()
+    }
+
+    fn rows(&mut self, table: &Name, first: i64) -> Result<Option<Vec<(i64, Row)>>, Fault> {
+        self.rows(table, first)
     }
 }

@@ -36,10 +36,16 @@ abbrev pub IsListRead : List Record → Result (List KitEntry) (ℕ × ℕ) → 
 IsListRead rows (Ok entries) = AreEntries 1 rows entries
 IsListRead rows (Err at) = IsFirstRefused rows at.0 at.1
 
+-- how many bytes a list has at the most
+abbrev pub MostListBytes : ℕ
+MostListBytes = 16777216
+
 -- the list of a folder: 57 where it has none, 11 where it is too long
 abbrev pub IsListOf : Option (List ℕ) → Result (List KitEntry) (ℕ × ℕ) → Type 0
 IsListOf None list = list ≡ Err (0, NO_FILE)
-IsListOf (Some bytes) list = ((16777216 < length bytes) × (list ≡ Err (0, OUT_OF_LIMITS))) ⊎ ((length bytes ≤ 16777216) × IsListRead (records_of bytes) list)
+IsListOf (Some bytes) list =
+    ((MostListBytes < length bytes) × (list ≡ Err (0, OUT_OF_LIMITS)))
+    ⊎ ((length bytes ≤ MostListBytes) × IsListRead (records_of bytes) list)
 
 -- the list of a kit is that of its file `kit.csv`
 abbrev pub IsKitList : Files → Result (List KitEntry) (ℕ × ℕ) → Type 0

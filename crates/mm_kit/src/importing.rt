@@ -18,7 +18,7 @@ use mm_run::Editor;
 use std::alloc::Global;
 
 /// The most bytes of a kit's list.
-const MOST_BYTES: u64 = 16_777_216;
+pub const MOST_LIST_BYTES: u64 = 16_777_216;
 
 /// The entries of the folder's list, or the answer where there are none.
 fn find_list<F: Folder>(alloc: Global, folder: &mut F) -> Result<Listed, FolderFault>
@@ -28,7 +28,7 @@ fn find_list<F: Folder>(alloc: Global, folder: &mut F) -> Result<Listed, FolderF
     ensures stays { F.files folder.new ≡ F.files folder.old }
     ensures fails { F.has_failed folder.new ≡ (F.has_failed folder.old || is_failure result) }
 {
-    match folder.read(alloc, "kit.csv", MOST_BYTES)? {
+    match folder.read(alloc, "kit.csv", MOST_LIST_BYTES)? {
         Found::Bytes(list) => match read_list(alloc, list.as_slice()) {
             Ok(listed) => Ok(listed),
             Err(_) => Err(FolderFault::Memory),

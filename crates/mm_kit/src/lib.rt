@@ -49,6 +49,6 @@ mod staging;
 pub use entries::KitEntry;
 pub use file_names::FileName;
 pub use folders::{Folder, FolderFault, Found};
-pub use importing::import_kit;
+pub use importing::{MOST_LIST_BYTES, import_kit};
 pub use lists::Listed;
 pub use memory::{MemoryFile, MemoryFolder};

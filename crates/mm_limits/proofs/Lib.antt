@@ -1,5 +1,6 @@
 pub mod LimitQueries
 pub mod Texts
+pub mod Columns
 pub mod LimitRules
 pub mod LimitParts
 pub mod EditionQueries

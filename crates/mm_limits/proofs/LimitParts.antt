@@ -1,15 +1,14 @@
 -- Rule 16 by its parts.
-use Rattle.std.proofs.Common.{◌≡◌, ◌↔◌, ℕ, ◌+◌, ◌<◌, ◌==◌, Bool, true, false, Result, Ok, Err, sym, subst, arith}
-use Rattle.std.specs.Prelude.{⊤}
+use Rattle.std.proofs.Common.{◌≡◌, ℕ, ◌+◌, ◌<◌, ◌==◌, Bool, true, false, Result, Ok, Err, subst, arith}
 use Rattle.sqlite.specs.State.{State}
 use Rattle.mm_definitions.specs.Bounds.{Profile}
 use Rattle.mm_definitions.specs.Package.{Package}
 use Rattle.mm_definitions.specs.Rules.{Limits}
 use Rattle.mm_definitions.specs.declared.answers.Fault.{Fault}
 use Rattle.mm_walk.specs.Check.{IsCheck}
-use Rattle.mm_walk.proofs.Compose.{same_rule, stops, gives_up}
+use Rattle.mm_walk.proofs.Compose.{stops, gives_up}
 use Rattle.mm_walk.specs.InTurn.{HoldsBelow, HasPassed}
-use Rattle.mm_limits.specs.LimitRows.{part}
+use Rattle.mm_limits.specs.LimitParts.{part}
 use Rattle.mm_walk.proofs.InTurn.{either_holds, none_below, one_more, none_asked, next_passes, asked_alone, all_passed}
 
 -- where all are within their limits, each part is
@@ -39,37 +38,41 @@ all_parts profile p t = record {
   pieces = t 13 (omega arith) (omega arith);
 }
 
-pub as_part : (profile : Profile) (old new : State) (Rule : Package → Type 0) (k n : ℕ) → k ≡ n → ((p : Package) → Rule p ↔ part profile n p)
-    → (r : Result Bool Fault) → IsCheck profile old new (λ _. ⊤) Rule r
-    → IsCheck profile old new (λ _. ⊤) (part profile k) r
-as_part profile old new Rule k n is same r h =
-    subst (λ m. IsCheck profile old new (λ _. ⊤) (part profile m) r) (sym is) (same_rule profile old new (λ _. ⊤) (λ _. ⊤) Rule (part profile n) (λ p _. tt) (λ p _. same p) r h)
+module _ (profile : Profile) (Known : Package → Type 0) where
+  pub no_part : (now : State) → HasPassed profile Known now now (1 < 1) (HoldsBelow (part profile) 1)
+  no_part now = none_asked profile Known now (1 < 1) (HoldsBelow (part profile) 1) (λ asked. omega (arith, asked))
+      (λ p. none_below (part profile) p)
 
-pub no_part : (profile : Profile) (now : State) → HasPassed profile now now (1 < 1) (HoldsBelow (part profile) 1)
-no_part profile now = none_asked profile now (1 < 1) (HoldsBelow (part profile) 1) (λ asked. omega (arith, asked)) (λ p. none_below (part profile) p)
+  module _ (old mid new : State) (k : ℕ)
+      (so_far : HasPassed profile Known old mid (1 < k) (HoldsBelow (part profile) k)) where
+    pub part_passes : (r : Result Bool Fault) {b : Bool} → r ≡ Ok b → b ≡ true
+        → IsCheck profile mid new Known (part profile k) r
+        → HasPassed profile Known old new (1 < k + 1) (HoldsBelow (part profile) (k + 1))
+    part_passes r is told h = next_passes profile Known old mid new (1 < k) (HoldsBelow (part profile) k) Known
+        (part profile k) (λ p known _. known) so_far (HoldsBelow (part profile) (k + 1)) (1 < k + 1)
+        (λ p below here. one_more (part profile) p k below here) r is told h
 
-module _ (profile : Profile) (old mid new : State) (k : ℕ) (so_far : HasPassed profile old mid (1 < k) (HoldsBelow (part profile) k)) where
-  pub part_passes : (r : Result Bool Fault) {b : Bool} → r ≡ Ok b → b ≡ true → IsCheck profile mid new (λ _. ⊤) (part profile k) r
-      → HasPassed profile old new (1 < k + 1) (HoldsBelow (part profile) (k + 1))
-  part_passes r is told h = next_passes profile old mid new (1 < k) (HoldsBelow (part profile) k) (λ _. ⊤)
-      (part profile k) (λ p _. tt) so_far (HoldsBelow (part profile) (k + 1)) (1 < k + 1)
-      (λ p below here. one_more (part profile) p k below here) r is told h
+    alone : (r : Result Bool Fault) → IsCheck profile mid new Known (part profile k) r
+        → IsCheck profile old new Known (part profile k) r
+    alone r h = asked_alone profile Known old mid new (1 < k) (HoldsBelow (part profile) k) Known (part profile k)
+        (λ p known _. known) so_far r h
 
-  alone : (r : Result Bool Fault) → IsCheck profile mid new (λ _. ⊤) (part profile k) r → IsCheck profile old new (λ _. ⊤) (part profile k) r
-  alone r h = asked_alone profile old mid new (1 < k) (HoldsBelow (part profile) k) (λ _. ⊤) (part profile k) (λ p _. tt) so_far r h
+    pub part_stops : (r : Result Bool Fault) {b : Bool} → r ≡ Ok b → b ≡ false
+        → IsCheck profile mid new Known (part profile k) r
+        → IsCheck profile old new Known (λ p. Limits profile p) (Ok false)
+    part_stops r is told h = stops profile old new Known (part profile k) (λ p. Limits profile p)
+        (λ p. Limits profile p) (λ p. (λ both. both.1, λ l. (part_holds profile p k l, l))) r is told (alone r h)
 
-  pub part_stops : (r : Result Bool Fault) {b : Bool} → r ≡ Ok b → b ≡ false → IsCheck profile mid new (λ _. ⊤) (part profile k) r
-      → IsCheck profile old new (λ _. ⊤) (λ p. Limits profile p) (Ok false)
-  part_stops r is told h = stops profile old new (λ _. ⊤) (part profile k) (λ p. Limits profile p)
-      (λ p. Limits profile p) (λ p. (λ both. both.1, λ l. (part_holds profile p k l, l))) r is told (alone r h)
+    pub part_fails : (r : Result Bool Fault) (fault : Fault) → r ≡ Err fault
+        → IsCheck profile mid new Known (part profile k) r
+        → IsCheck profile old new Known (λ p. Limits profile p) (Err fault)
+    part_fails r fault is h =
+        gives_up profile old new Known Known (part profile k) (λ p. Limits profile p) r fault is (alone r h)
 
-  pub part_fails : (r : Result Bool Fault) (fault : Fault) → r ≡ Err fault → IsCheck profile mid new (λ _. ⊤) (part profile k) r
-      → IsCheck profile old new (λ _. ⊤) (λ p. Limits profile p) (Err fault)
-  part_fails r fault is h = gives_up profile old new (λ _. ⊤) (λ _. ⊤) (part profile k) (λ p. Limits profile p) r fault is (alone r h)
-
-pub parts_pass : (profile : Profile) (old new : State) (k : ℕ) → k ≡ 14 → HasPassed profile old new (1 < k) (HoldsBelow (part profile) k)
-    → IsCheck profile old new (λ _. ⊤) (λ p. Limits profile p) (Ok true)
-parts_pass profile old new k is passed =
-    all_passed profile old new (1 < 14) (HoldsBelow (part profile) 14) (λ p. Limits profile p) (omega arith)
-    (λ p. (all_parts profile p, λ l. λ j from to. part_holds profile p j l))
-    (subst (λ n. HasPassed profile old new (1 < n) (HoldsBelow (part profile) n)) is passed)
+  pub parts_pass : (old new : State) (k : ℕ) → k ≡ 14
+      → HasPassed profile Known old new (1 < k) (HoldsBelow (part profile) k)
+      → IsCheck profile old new Known (λ p. Limits profile p) (Ok true)
+  parts_pass old new k is passed =
+      all_passed profile Known old new (1 < 14) (HoldsBelow (part profile) 14) (λ p. Limits profile p) (omega arith)
+      (λ p. (all_parts profile p, λ l. λ j from to. part_holds profile p j l))
+      (subst (λ n. HasPassed profile Known old new (1 < n) (HoldsBelow (part profile) n)) is passed)

@@ -1,30 +1,46 @@
--- What the queries of rule 16 show.
-use Rattle.std.proofs.Common.{◌↔◌, ℕ, ℤ, [], ◌∷◌, Option, Some, None, refl, ap}
-use Rattle.std.specs.Prelude.{⊤, IfSome}
-use Rattle.sql_forms.specs.Term.{col}
-use Rattle.sql_forms.specs.Query.{inner, left, end}
+-- What the queries of rule 16 show: whether the entries of each table are within the limits of its columns.
+use Rattle.std.proofs.Common.{◌≡◌, ◌↔◌, ℕ, suc, ◌<◌, ◌≤◌, ◌==◌, ℤ, List, [], ◌∷◌, Option, Some, None, Bool, true}
+use Rattle.std.proofs.Common.{false, Result}
+use Rattle.std.proofs.Common.{inl, inr, refl, sym, ap, subst, arith}
+use Rattle.std.specs.Prelude.{IfSome}
+use Rattle.std.proofs.lemmas.Bool.{cases_Bool}
+use Rattle.std.proofs.lemmas.Bool.Decides.{nat_tests}
+use Rattle.sql_forms.specs.Key.{Key}
+use Rattle.sql_forms.specs.Term.{Term}
+use Rattle.sql_forms.specs.Query.{Join}
+use Rattle.sqlite.specs.State.{State}
 use Rattle.sqlite.specs.declared.types.Value.TheVariants.{Int, Text as Words}
 use Rattle.mm_definitions.specs.Keys.{Text}
-use Rattle.mm_definitions.specs.Bounds.{Profile, IsCoordinate, IsSystemNumber, IsClean}
-use Rattle.mm_definitions.specs.Rules.{TileWithin, MediumWithin, PieceWithin}
+use Rattle.mm_definitions.specs.Bounds.{Profile, IsCoordinate, IsSystemNumber, IsClean, IsLong, IsTileBytes}
+use Rattle.mm_definitions.specs.Bounds.{IsMediaBytes, MostTileBytes, MostMediaBytes}
+use Rattle.mm_definitions.specs.Package.{Package}
+use Rattle.mm_definitions.specs.Parts.{Each}
+use Rattle.mm_definitions.specs.Rules.{SystemWithin, ContentsWithin, KindWithin, SetWithin, MatrixWithin}
+use Rattle.mm_definitions.specs.Rules.{ExtensionWithin, TileWithin, RowWithin, MediumWithin, RelationWithin}
+use Rattle.mm_definitions.specs.Rules.{PairingWithin, EditionWithin, PieceWithin}
+use Rattle.mm_definitions.specs.declared.answers.Fault.{Fault}
 use Rattle.mm_definitions.proofs.Parts.{same_some}
 use Rattle.mm_store.specs.Rows.{maybe, maybe_words, system_row, contents_row, kind_row, set_row, grid_row}
 use Rattle.mm_store.specs.Rows.{extension_row, tile_row, attribute_row, medium_row, relation_row, pairing_row}
 use Rattle.mm_store.specs.Rows.{edition_row, staged_row}
-use Rattle.mm_limits.specs.LimitRows.{number_if_any, text_if_any, IsSystemWithinRow, IsContentsWithinRow}
-use Rattle.mm_limits.specs.LimitRows.{IsKindWithinRow, IsSetWithinRow, IsMatrixWithinRow, IsExtensionWithinRow}
-use Rattle.mm_limits.specs.LimitRows.{IsTileWithinRow, IsAttributeWithinRow, IsMediumWithinRow, IsRelationWithinRow}
-use Rattle.mm_limits.specs.LimitRows.{IsPairingWithinRow, IsEditionWithinRow, IsPieceWithinRow, SystemsAreWithin}
-use Rattle.mm_limits.specs.LimitRows.{ContentsAreWithin, KindsAreWithin, SetsAreWithin, MatricesAreWithin}
-use Rattle.mm_limits.specs.LimitRows.{ExtensionsAreWithin, TilesAreWithin, RowsAreWithin, MediaAreWithin}
-use Rattle.mm_limits.specs.LimitRows.{RelationsAreWithin, PairingsAreWithin, EditionsAreWithin, PiecesAreWithin}
 use Rattle.mm_store.specs.Kept.{tile_id, tile_with, medium_id, medium_with, piece_id, piece_with}
+use Rattle.mm_walk.specs.Check.{IsCheck}
+use Rattle.mm_walk.specs.RowTests.{TellsAll}
+use Rattle.mm_limits.specs.LimitRows.{number_if_any, text_if_any, IsWithinRow}
+use Rattle.mm_limits.specs.LimitParts.{query_of, limits_of, part, tiles_query, tiles_limits, media_query}
+use Rattle.mm_limits.specs.LimitParts.{media_limits}
+use Rattle.mm_limits.specs.Longest.{AreFew, is_few}
+use Rattle.mm_limits.specs.declared.row_limits.Limit.{Limit}
+use Rattle.mm_limits.specs.declared.parts.TheConstants.{SYSTEMS, CONTENTS, KINDS, SETS, MATRICES, EXTENSIONS, TILES}
+use Rattle.mm_limits.specs.declared.parts.TheConstants.{ROWS, MEDIA, RELATIONS, PAIRINGS, EDITIONS, PIECES}
+use Rattle.mm_limits.specs.declared.parts.TheConstants.{TILE_PLACES, MEDIA_TYPES}
 use Rattle.mm_walk.proofs.Joined.{as_whole, after_rowid, after_id, covered, covered_whole, covered_id, each_row}
 use Rattle.mm_walk.proofs.Counted.{counts_cover}
 use Rattle.mm_walk.proofs.Named.{each_named, joined_blob, also}
-use Rattle.mm_walk.proofs.Terms.{equals}
+use Rattle.mm_walk.proofs.Checks.{Says, checked}
+use Rattle.mm_limits.proofs.LimitQueries.{Asks}
+use Rattle.mm_limits.proofs.LimitQueries as query
 use Rattle.mm_limits.proofs.Texts.{name_utf8, content_type_utf8, stamp_is_utf8}
-use Rattle.mm_walk.proofs.Checks.{Says}
 
 number_is : (P : ℤ → Type 0) (o : Option ℤ) → number_if_any P (maybe o) ↔ IfSome o P
 number_is P None = (λ _. tt, λ _. tt)
@@ -34,180 +50,192 @@ clean_is : (o : Option Text) → text_if_any IsClean (maybe_words o) ↔ IfSome 
 clean_is None = (λ _. tt, λ _. tt)
 clean_is (Some t) = (λ h. h.1, λ h. (h.utf8, h))
 
-pub systems_within : Says [] (inner 0 end) [] (col 1 0 ∷ col 1 1 ∷ col 1 3 ∷ col 1 4 ∷ col 1 5 ∷ col 1 6 ∷ []) IsSystemWithinRow (λ _. ⊤) SystemsAreWithin
-systems_within version db p stands known =
-    each_row as_whole system_row (db 0) p.systems (covered_whole stands.holds.systems) _ _ (λ k v x. (
-      λ h. record { numbers = h.numbers; name = h.name.1; organization = h.organization.1; definition = h.definition.1; description = h.description.1 },
-      λ w. record {
-        numbers = w.numbers;
-        name = (w.name.clean.utf8, w.name);
-        organization =
-            (w.organization.clean.utf8, w.organization);
-        definition = (w.definition.clean.utf8, w.definition);
-        description = (w.description.clean.utf8, w.description);
-      },
-    ))
+-- what holds of this number, and of those above
+this_or : (P : ℕ → Type 0) (n k : ℕ) → P n → (suc n ≤ k → P k) → n ≤ k → P k
+this_or P n k here above low = elim (cases_Bool (n == k)) as (λ _. P k) [
+  | inl same ↦ subst P (let e = same in grind (arith, nat_tests)) here
+  | inr other ↦ above (let apart : n < k = (let e = other in grind (arith, nat_tests)) in omega (arith, apart))
+]
 
-pub contents_within : (profile : Profile)
-    → Says [] (inner 1 end) [] (col 1 1 ∷ col 1 2 ∷ col 1 3 ∷ col 1 4 ∷ col 1 5 ∷ col 1 6 ∷ col 1 7 ∷ col 1 8 ∷ col 1
-    9 ∷ col 1 10 ∷ []) (IsContentsWithinRow profile) (λ _. ⊤) (ContentsAreWithin profile)
-contents_within profile version db p stands known =
-    each_row after_rowid contents_row (db 1) p.contents (covered (λ k v. (_, _, refl)) stands.holds.contents) _ _ (λ k v x. (
-      λ h. record {
-        table = h.table.1;
-        data_type = h.data_type.1;
-        identifier = h.identifier.1;
-        description =
-            same_some h.description;
-        last_change = h.last_change.1;
-        min_x =
-            (number_is (IsCoordinate profile) v.min_x).0 h.min_x;
-        min_y =
-            (number_is (IsCoordinate profile) v.min_y).0 h.min_y;
-        max_x =
-            (number_is (IsCoordinate profile) v.max_x).0 h.max_x;
-        max_y =
-            (number_is (IsCoordinate profile) v.max_y).0 h.max_y;
-        system =
-            (number_is IsSystemNumber v.system).0 h.system;
-      },
-      λ w. record {
-        table = (name_utf8 _ w.table, w.table);
-        data_type = (w.data_type.utf8, w.data_type);
-        identifier =
-            (w.identifier.utf8, w.identifier);
-        description = ap Some w.description;
-        last_change =
-            (stamp_is_utf8 _ w.last_change, w.last_change);
-        min_x =
-            (number_is (IsCoordinate profile) v.min_x).1 w.min_x;
-        min_y =
-            (number_is (IsCoordinate profile) v.min_y).1 w.min_y;
-        max_x =
-            (number_is (IsCoordinate profile) v.max_x).1 w.max_x;
-        max_y =
-            (number_is (IsCoordinate profile) v.max_y).1 w.max_y;
-        system =
-            (number_is IsSystemNumber v.system).1 w.system;
-      },
-    ))
+-- what is known of bytes is within a limit
+long_within : (longest most : ℕ) → is_few (Some longest) most ≡ true → (bytes : List ℕ) → IsLong 1 longest bytes
+    → IsLong 1 most bytes
+long_within longest most few bytes long =
+    (long.0, (let high = long.1 in let e = few in grind (arith, nat_tests)))
 
-pub kinds_within : Says [] (inner 13 end) [] (col 1 1 ∷ col 1 2 ∷ []) IsKindWithinRow (λ _. ⊤) KindsAreWithin
-kinds_within version db p stands known =
-    each_row after_rowid kind_row (db 13) p.kinds (covered (λ k v. (_, _, refl)) stands.holds.kinds) _ _ (λ k v x. (
-      λ h. (h.table.1, h.kind.1),
-      λ w. record { table = (name_utf8 _ w.0, w.0); kind = (w.1.utf8, w.1) },
-    ))
+module _ (longest : Option ℕ) (p : Package) (known : AreFew longest p) where
+  few_tiles : is_few longest MostTileBytes ≡ true → Each p.tiles (λ k bytes. IsTileBytes bytes)
+  few_tiles few = elim longest as (λ o. AreFew o p → is_few o MostTileBytes ≡ true
+      → Each p.tiles (λ k bytes. IsTileBytes bytes)) [
+        | None ↦ λ any lie. absurd (let e : false ≡ true = lie in cc)
+        | Some n ↦ λ it is k bytes at. long_within n MostTileBytes is bytes (it.0 k bytes at)
+      ] known few
 
-pub sets_within : (profile : Profile)
-    → Says [] (inner 4 end) [] (col 1 1 ∷ col 1 2 ∷ col 1 3 ∷ col 1 4 ∷ col 1 5 ∷ col 1 6 ∷ []) (IsSetWithinRow profile) (λ _. ⊤) (SetsAreWithin profile)
-sets_within profile version db p stands known =
-    each_row after_rowid set_row (db 4) p.sets (covered (λ k v. (_, _, refl)) stands.holds.sets) _ _ (λ k v x. (
-      λ h. record { table = h.table.1; system = h.system; box = record { min_x = h.min_x; min_y = h.min_y; max_x = h.max_x; max_y = h.max_y } },
-      λ w. record { table = (name_utf8 _ w.table, w.table); system = w.system; min_x = w.box.min_x; min_y = w.box.min_y; max_x = w.box.max_x; max_y = w.box.max_y },
-    ))
+  few_media : is_few longest MostMediaBytes ≡ true → Each p.media (λ k medium. IsMediaBytes medium.bytes)
+  few_media few = elim longest as (λ o. AreFew o p → is_few o MostMediaBytes ≡ true
+      → Each p.media (λ k medium. IsMediaBytes medium.bytes)) [
+        | None ↦ λ any lie. absurd (let e : false ≡ true = lie in cc)
+        | Some n ↦ λ it is k medium at. long_within n MostMediaBytes is medium.bytes (it.1 k medium at)
+      ] known few
 
-pub matrices_within : (profile : Profile)
-    → Says [] (inner 6 end) [] (col 1 1 ∷ col 1 2 ∷ col 1 3 ∷ col 1 4 ∷ col 1 5 ∷ col 1 6 ∷ col 1 7 ∷ col 1 8 ∷ []) (IsMatrixWithinRow profile) (λ _. ⊤) (MatricesAreWithin profile)
-matrices_within profile version db p stands known =
-    each_row after_rowid grid_row (db 6) p.matrices (covered (λ k v. (_, _, refl)) stands.holds.matrices) _ _ (λ k v x. (
-      λ h. record {
-        table = h.table.1;
-        zoom = h.zoom;
-        matrix_width = h.matrix_width;
-        matrix_height = h.matrix_height;
-        tile_width = h.tile_width;
-        tile_height = h.tile_height;
-        pixel_x_size = h.pixel_x_size;
-        pixel_y_size = h.pixel_y_size;
-      },
-      λ w. record {
-        table = (name_utf8 _ w.table, w.table);
-        zoom = w.zoom;
-        matrix_width = w.matrix_width;
-        matrix_height = w.matrix_height;
-        tile_width = w.tile_width;
-        tile_height = w.tile_height;
-        pixel_x_size =
-            w.pixel_x_size;
-        pixel_y_size = w.pixel_y_size;
-      },
-    ))
+module _ (profile : Profile) (longest : Option ℕ) (old new : State) where
+  -- what a walk over the rows of this query tells, by the limits of their columns, is whether the package has this
+  abbrev pub Tells : List ℕ → List Limit → (Package → Type 0) → Type 0
+  Tells sql limits Rule = (r : Result Bool Fault) → TellsAll sql [] (IsWithinRow profile limits) old new r
+      → IsCheck profile old new (AreFew longest) Rule r
 
-pub extensions_within : Says [] (inner 8 end) [] (col 1 1 ∷ col 1 2 ∷ col 1 3 ∷ col 1 4 ∷ col 1 5 ∷ []) IsExtensionWithinRow (λ _. ⊤) ExtensionsAreWithin
-extensions_within version db p stands known =
-    each_row after_rowid (λ e (n : ℕ). extension_row e) (db 8) p.extensions (counts_cover (db 8) p.extensions stands.holds.extensions) _ _ (λ k v x. (
-      λ h. record { table = (clean_is k.table).0 h.table; column = (clean_is k.column).0 h.at_column; name = h.name.1; definition = h.definition.1; scope = h.scope.1 },
-      λ w. record {
-        table = (clean_is k.table).1 w.table;
-        at_column = (clean_is k.column).1 w.column;
-        name =
-            (w.name.utf8, w.name);
-        definition = (w.definition.utf8, w.definition);
-        scope = (w.scope.utf8, w.scope);
-      },
-    ))
+  shown : {sql : List ℕ} {from : Join} {project : List Term} {order : List (Term × Key)} {names : List (List ℕ)}
+      (limits : List Limit) (Rule : Package → Type 0) → Asks sql from project order names
+      → Says [] from [] project (IsWithinRow profile limits) (AreFew longest) Rule → Tells sql limits Rule
+  shown limits Rule asks says =
+      checked _ [] (IsWithinRow profile limits) _ _ _ _ _ asks.0 asks.1 (AreFew longest) Rule says profile old new
 
-pub tiles_within : Says [] (inner 15 (left 27 (equals 2 0 1 5 ∷ []) end)) [] (col 1 1 ∷ col 1 2 ∷ col 1 3 ∷ col 1 4 ∷ col 2 3 ∷ []) IsTileWithinRow (λ _. ⊤) TilesAreWithin
-tiles_within version db p stands known =
-    let h = stands.holds in
-    each_named tile_id tile_with h.kept.shelf h.kept.tiles p.tiles h.keeps.tiles_told after_rowid tile_row (db 15) (covered (λ k i. (_, _, refl)) h.keeps.tiles) _ TileWithin
-    (λ k i x bytes at named. also (joined_blob (db 27) h.kept.shelf h.keeps.blobs (λ v. IsTileWithinRow (Words k.table ∷ Int k.zoom ∷ Int k.column ∷ Int k.row ∷ v ∷ [])) (Some i) bytes named) (
-      λ row. record { table = row.table.1; zoom = row.zoom; column = row.at_column; row = row.at_row; bytes = row.bytes },
-      λ w. record { table = (name_utf8 _ w.table, w.table); zoom = w.zoom; at_column = w.column; at_row = w.row; bytes = w.bytes },
-    ))
+  coordinate : (o : Option ℤ) → number_if_any (IsCoordinate profile) (maybe o) ↔ IfSome o (IsCoordinate profile)
+  coordinate = number_is (IsCoordinate profile)
 
-pub rows_within : Says [] (inner 17 end) [] (col 1 1 ∷ col 1 2 ∷ col 1 3 ∷ col 1 4 ∷ col 1 5 ∷ []) IsAttributeWithinRow (λ _. ⊤) RowsAreWithin
-rows_within version db p stands known =
-    each_row after_rowid attribute_row (db 17) p.rows (covered (λ k v. (_, _, refl)) stands.holds.rows) _ _ (λ k v x. (
-      λ h. record { table = h.table.1; id = h.id; title = h.title.1; note = h.note.1; amount = h.amount },
-      λ w. record { table = (name_utf8 _ w.table, w.table); id = w.id; title = (w.title.clean.utf8, w.title); note = (w.note.clean.utf8, w.note); amount = w.amount },
-    ))
+  systems : Tells SYSTEMS.0.now SYSTEMS.1.now (λ p. Each p.systems SystemWithin)
+  systems = shown SYSTEMS.1.now (λ p. Each p.systems SystemWithin) query.systems (λ version db p stands known.
+      each_row as_whole system_row (db 0) p.systems (covered_whole stands.holds.systems) _ _
+      (λ k v x. (λ h. assumption, λ w. assumption)))
 
-pub media_within : Says [] (inner 19 (left 27 (equals 2 0 1 3 ∷ []) end)) [] (col 1 1 ∷ col 1 2 ∷ col 2 3 ∷ col 1 4 ∷ []) IsMediumWithinRow (λ _. ⊤) MediaAreWithin
-media_within version db p stands known =
-    let h = stands.holds in
-    each_named medium_id medium_with h.kept.shelf h.kept.media p.media h.keeps.media_told after_rowid medium_row (db 19) (covered (λ k i. (_, _, refl)) h.keeps.media) _ MediumWithin
-    (λ k i x bytes at named. also (joined_blob (db 27) h.kept.shelf h.keeps.blobs (λ v. IsMediumWithinRow (Words k.table ∷ Int k.id ∷ v ∷ Words i.content_type ∷ [])) (Some i.blob) bytes named) (
-      λ row. record { table = row.table.1; id = row.id; bytes = row.bytes; content_type = row.content_type.1 },
-      λ w. record { table = (name_utf8 _ w.table, w.table); id = w.id; bytes = w.bytes; content_type = (content_type_utf8 _ w.content_type, w.content_type) },
-    ))
+  contents : Tells CONTENTS.0.now CONTENTS.1.now (λ p. Each p.contents (ContentsWithin profile))
+  contents = shown CONTENTS.1.now (λ p. Each p.contents (ContentsWithin profile)) query.contents (λ version db p
+      stands known.
+      each_row after_rowid contents_row (db 1) p.contents (covered (λ k v. (_, _, refl)) stands.holds.contents) _ _
+      (λ k v x. (
+        λ h. assumption (
+          same_some h.1.1.1.0,
+          (coordinate v.min_x).0 h.1.1.1.1.1.0,
+          (coordinate v.min_y).0 h.1.1.1.1.1.1.0,
+          (coordinate v.max_x).0 h.1.1.1.1.1.1.1.0,
+          (coordinate v.max_y).0 h.1.1.1.1.1.1.1.1.0,
+          (number_is IsSystemNumber v.system).0 h.1.1.1.1.1.1.1.1.1.0,
+        ),
+        λ w. assumption (
+          name_utf8 _ w.table,
+          ap Some w.description,
+          stamp_is_utf8 _ w.last_change,
+          (coordinate v.min_x).1 w.min_x,
+          (coordinate v.min_y).1 w.min_y,
+          (coordinate v.max_x).1 w.max_x,
+          (coordinate v.max_y).1 w.max_y,
+          (number_is IsSystemNumber v.system).1 w.system,
+        ),
+      )))
 
-pub relations_within : Says [] (inner 10 end) [] (col 1 7 ∷ col 1 2 ∷ col 1 3 ∷ col 1 4 ∷ col 1 5 ∷ col 1 6 ∷ []) IsRelationWithinRow (λ _. ⊤) RelationsAreWithin
-relations_within version db p stands known =
-    each_row after_id relation_row (db 10) p.relations (covered_id (λ k v. (_, _, refl)) stands.holds.relations) _ _ (λ k v x. (
-      λ h. record { mapping = h.mapping.1; base = h.base.1; base_column = h.base_column.1; related = h.related.1; related_column = h.related_column.1; name = h.name.1 },
-      λ w. record {
-        mapping = (name_utf8 _ w.mapping, w.mapping);
-        base = (name_utf8 _ w.base, w.base);
-        base_column =
-            (w.base_column.utf8, w.base_column);
-        related = (name_utf8 _ w.related, w.related);
-        related_column =
-            (w.related_column.utf8, w.related_column);
-        name = (w.name.utf8, w.name);
-      },
-    ))
+  kinds : Tells KINDS.0.now KINDS.1.now (λ p. Each p.kinds KindWithin)
+  kinds = shown KINDS.1.now (λ p. Each p.kinds KindWithin) query.kinds (λ version db p stands known.
+      each_row after_rowid kind_row (db 13) p.kinds (covered (λ k v. (_, _, refl)) stands.holds.kinds) _ _
+      (λ k v x. (λ h. assumption, λ w. assumption (name_utf8 _ w.0))))
 
-pub pairings_within : Says [] (inner 21 end) [] (col 1 1 ∷ col 1 2 ∷ col 1 3 ∷ []) IsPairingWithinRow (λ _. ⊤) PairingsAreWithin
-pairings_within version db p stands known =
-    each_row after_rowid pairing_row (db 21) p.pairings (covered (λ k v. (_, _, refl)) stands.holds.pairings) _ _ (λ k v x. (
-      λ h. record { mapping = h.mapping.1; base_id = h.base_id; related_id = h.related_id },
-      λ w. record { mapping = (name_utf8 _ w.mapping, w.mapping); base_id = w.base_id; related_id = w.related_id },
-    ))
+  sets : Tells SETS.0.now SETS.1.now (λ p. Each p.sets (SetWithin profile))
+  sets = shown SETS.1.now (λ p. Each p.sets (SetWithin profile)) query.sets (λ version db p stands known.
+      each_row after_rowid set_row (db 4) p.sets (covered (λ k v. (_, _, refl)) stands.holds.sets) _ _
+      (λ k v x. (λ h. assumption, λ w. assumption (name_utf8 _ w.table))))
 
-pub editions_within : Says [] (inner 23 end) [] (col 1 1 ∷ col 1 2 ∷ []) IsEditionWithinRow (λ _. ⊤) EditionsAreWithin
-editions_within version db p stands known =
-    each_row after_rowid edition_row (db 23) p.editions (covered (λ k v. (_, _, refl)) stands.holds.editions) _ _ (λ k v x. (
-      λ h. (h.name.1, h.state.1),
-      λ w. record { name = (name_utf8 _ w.0, w.0); state = (w.1.utf8, w.1) },
-    ))
+  matrices : Tells MATRICES.0.now MATRICES.1.now (λ p. Each p.matrices (MatrixWithin profile))
+  matrices = shown MATRICES.1.now (λ p. Each p.matrices (MatrixWithin profile)) query.matrices (λ version db p
+      stands known.
+      each_row after_rowid grid_row (db 6) p.matrices (covered (λ k v. (_, _, refl)) stands.holds.matrices) _ _
+      (λ k v x. (λ h. assumption, λ w. assumption (name_utf8 _ w.table))))
 
-pub pieces_within : Says [] (inner 25 end) [] (col 1 1 ∷ col 1 2 ∷ []) IsPieceWithinRow (λ _. ⊤) PiecesAreWithin
-pieces_within version db p stands known =
-    let h = stands.holds in
-    each_named piece_id piece_with h.kept.shelf h.kept.pieces p.pieces h.keeps.pieces_told after_rowid staged_row (db 25) (covered (λ k i. (_, _, refl)) h.keeps.pieces) _ PieceWithin
-    (λ k i x bytes at named. (
-      λ row. (row.edition.1, row.number),
-      λ w. record { edition = (name_utf8 _ w.0, w.0); number = w.1 },
-    ))
+  extensions : Tells EXTENSIONS.0.now EXTENSIONS.1.now (λ p. Each p.extensions ExtensionWithin)
+  extensions = shown EXTENSIONS.1.now (λ p. Each p.extensions ExtensionWithin) query.extensions (λ version db p
+      stands known.
+      each_row after_rowid (λ e (n : ℕ). extension_row e) (db 8) p.extensions
+      (counts_cover (db 8) p.extensions stands.holds.extensions) _ _ (λ k v x. (
+        λ h. assumption ((clean_is k.table).0 h.0, (clean_is k.column).0 h.1.0),
+        λ w. assumption ((clean_is k.table).1 w.table, (clean_is k.column).1 w.column),
+      )))
+
+  tiles : Tells TILES.0.now TILES.1.now (λ p. Each p.tiles TileWithin)
+  tiles = shown TILES.1.now (λ p. Each p.tiles TileWithin) query.tiles (λ version db p stands known.
+      (let h = stands.holds in
+      each_named tile_id tile_with h.kept.shelf h.kept.tiles p.tiles h.keeps.tiles_told after_rowid tile_row (db 15)
+      (covered (λ k i. (_, _, refl)) h.keeps.tiles) _ TileWithin (λ k i x bytes at named.
+      also (joined_blob (db 27) h.kept.shelf h.keeps.blobs
+      (λ v. IsWithinRow profile TILES.1.now (Words k.table ∷ Int k.zoom ∷ Int k.column ∷ Int k.row ∷ v ∷ []))
+      (Some i) bytes named) (λ row. assumption, λ w. assumption (name_utf8 _ w.table)))))
+
+  tile_places : is_few longest MostTileBytes ≡ true
+      → Tells TILE_PLACES.0.now TILE_PLACES.1.now (λ p. Each p.tiles TileWithin)
+  tile_places few = shown TILE_PLACES.1.now (λ p. Each p.tiles TileWithin) query.tile_places (λ version db p
+      stands known.
+      (let h = stands.holds in
+      each_named tile_id tile_with h.kept.shelf h.kept.tiles p.tiles h.keeps.tiles_told after_rowid tile_row (db 15)
+      (covered (λ k i. (_, _, refl)) h.keeps.tiles) _ TileWithin (λ k i x bytes at named.
+      (λ row. assumption (few_tiles longest p known few k bytes at), λ w. assumption (name_utf8 _ w.table)))))
+
+  tiles_by : (few : Bool) → is_few longest MostTileBytes ≡ few
+      → Tells (tiles_query few) (tiles_limits few) (λ p. Each p.tiles TileWithin)
+  tiles_by true is = tile_places is
+  tiles_by false is = tiles
+
+  rows : Tells ROWS.0.now ROWS.1.now (λ p. Each p.rows RowWithin)
+  rows = shown ROWS.1.now (λ p. Each p.rows RowWithin) query.rows (λ version db p stands known.
+      each_row after_rowid attribute_row (db 17) p.rows (covered (λ k v. (_, _, refl)) stands.holds.rows) _ _
+      (λ k v x. (λ h. assumption, λ w. assumption (name_utf8 _ w.table))))
+
+  media : Tells MEDIA.0.now MEDIA.1.now (λ p. Each p.media MediumWithin)
+  media = shown MEDIA.1.now (λ p. Each p.media MediumWithin) query.media (λ version db p stands known.
+      (let h = stands.holds in
+      each_named medium_id medium_with h.kept.shelf h.kept.media p.media h.keeps.media_told after_rowid medium_row
+      (db 19)
+      (covered (λ k i. (_, _, refl)) h.keeps.media) _ MediumWithin (λ k i x bytes at named.
+      also (joined_blob (db 27) h.kept.shelf h.keeps.blobs
+      (λ v. IsWithinRow profile MEDIA.1.now (Words k.table ∷ Int k.id ∷ v ∷ Words i.content_type ∷ [])) (Some i.blob)
+      bytes named) (λ row. assumption, λ w. assumption (name_utf8 _ w.table, content_type_utf8 _ w.content_type)))))
+
+  media_types : is_few longest MostMediaBytes ≡ true
+      → Tells MEDIA_TYPES.0.now MEDIA_TYPES.1.now (λ p. Each p.media MediumWithin)
+  media_types few = shown MEDIA_TYPES.1.now (λ p. Each p.media MediumWithin) query.media_types (λ version db p
+      stands known.
+      (let h = stands.holds in
+      each_named medium_id medium_with h.kept.shelf h.kept.media p.media h.keeps.media_told after_rowid medium_row
+      (db 19)
+      (covered (λ k i. (_, _, refl)) h.keeps.media) _ MediumWithin (λ k i x bytes at named. (
+        λ row. assumption (few_media longest p known few k _ at),
+        λ w. assumption (name_utf8 _ w.table, content_type_utf8 _ w.content_type),
+      ))))
+
+  media_by : (few : Bool) → is_few longest MostMediaBytes ≡ few
+      → Tells (media_query few) (media_limits few) (λ p. Each p.media MediumWithin)
+  media_by true is = media_types is
+  media_by false is = media
+
+  relations : Tells RELATIONS.0.now RELATIONS.1.now (λ p. Each p.relations RelationWithin)
+  relations = shown RELATIONS.1.now (λ p. Each p.relations RelationWithin) query.relations (λ version db p stands known.
+      each_row after_id relation_row (db 10) p.relations (covered_id (λ k v. (_, _, refl)) stands.holds.relations) _ _
+      (λ k v x. (λ h. assumption, λ w. assumption (name_utf8 _ w.mapping, name_utf8 _ w.base, name_utf8 _ w.related))))
+
+  pairings : Tells PAIRINGS.0.now PAIRINGS.1.now (λ p. Each p.pairings PairingWithin)
+  pairings = shown PAIRINGS.1.now (λ p. Each p.pairings PairingWithin) query.pairings (λ version db p stands known.
+      each_row after_rowid pairing_row (db 21) p.pairings (covered (λ k v. (_, _, refl)) stands.holds.pairings) _ _
+      (λ k v x. (λ h. assumption, λ w. assumption (name_utf8 _ w.mapping))))
+
+  editions : Tells EDITIONS.0.now EDITIONS.1.now (λ p. Each p.editions EditionWithin)
+  editions = shown EDITIONS.1.now (λ p. Each p.editions EditionWithin) query.editions (λ version db p stands known.
+      each_row after_rowid edition_row (db 23) p.editions (covered (λ k v. (_, _, refl)) stands.holds.editions) _ _
+      (λ k v x. (λ h. assumption, λ w. assumption (name_utf8 _ w.0))))
+
+  pieces : Tells PIECES.0.now PIECES.1.now (λ p. Each p.pieces PieceWithin)
+  pieces = shown PIECES.1.now (λ p. Each p.pieces PieceWithin) query.pieces (λ version db p stands known.
+      (let h = stands.holds in
+      each_named piece_id piece_with h.kept.shelf h.kept.pieces p.pieces h.keeps.pieces_told after_rowid staged_row
+      (db 25)
+      (covered (λ k i. (_, _, refl)) h.keeps.pieces) _ PieceWithin (λ k i x bytes at named.
+      (λ row. assumption, λ w. assumption (name_utf8 _ w.0)))))
+
+  -- each part is told by a walk over the rows of its table
+  pub part_told : (k : ℕ) → 1 ≤ k → k < 14 → (sql : List ℕ) (limits : List Limit) → sql ≡ query_of longest k
+      → limits ≡ limits_of longest k → Tells sql limits (part profile k)
+  unfolding part
+  part_told k low high sql limits e f =
+      subst (λ s. Tells s limits (part profile k)) (sym e)
+      (subst (λ l. Tells (query_of longest k) l (part profile k)) (sym f) (
+      let P = λ (k : ℕ). Tells (query_of longest k) (limits_of longest k) (part profile k) in
+      this_or P 1 k systems (this_or P 2 k contents (this_or P 3 k kinds (this_or P 4 k sets (this_or P 5 k matrices
+      (this_or P 6 k extensions (this_or P 7 k (tiles_by (is_few longest MostTileBytes) refl) (this_or P 8 k rows
+      (this_or P 9 k (media_by (is_few longest MostMediaBytes) refl)
+      (this_or P 10 k relations (this_or P 11 k pairings (this_or P 12 k editions
+      (this_or P 13 k pieces (λ past. absurd (omega (arith, past, high))))))))))))))) low))

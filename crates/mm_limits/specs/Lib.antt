@@ -1,5 +1,6 @@
 pub mod LimitRows
-pub mod Texts
+pub mod LimitParts
 pub mod PieceRows
 pub mod EditionParts
 pub mod EditionTexts
+pub mod Longest

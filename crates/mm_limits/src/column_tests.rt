@@ -4,12 +4,15 @@ ghost use Rattle.std.specs.Prelude.{◌≡◌, ◌↔◌, IsTrue};
 ghost use Rattle.std.specs.Str.{IsUtf8};
 ghost use Rattle.sqlite.specs.Order.{column};
 ghost use Rattle.mm_definitions.specs.Bounds.{IsCoordinate, IsPixelSize, IsFrom, IsLong, IsText, IsName, IsClean, IsIdentifier, IsContentType};
+ghost use Rattle.mm_definitions.specs.Rules.{IsGiven};
 ghost use Rattle.mm_definitions.specs.Stamp.{IsSomeStamp};
 ghost use Rattle.mm_definitions.specs.Units.{profile_of};
-ghost use Rattle.mm_limits.specs.LimitRows.{text_by, text_if_any, number_by, number_if_any, bytes_by};
+ghost use Rattle.mm_walk.specs.Columns.{number_of};
+ghost use Rattle.mm_limits.specs.LimitRows.{text_by, text_if_any, number_by, number_if_any, numbers_by, bytes_by};
 
 use mm_definitions::content_types::is_content_type;
 use mm_definitions::identifiers::is_identifier;
+use mm_definitions::limits::LAST_ID;
 use mm_definitions::moments::is_stamp;
 use mm_definitions::names::is_name;
 use mm_definitions::texts::{is_clean, is_text};
@@ -17,6 +20,7 @@ use mm_definitions::units::Unit;
 use mm_walk::columns::{blob, number, text, words};
 use sqlite::Row;
 
+/// Whether a column of a shown row holds the text of a name.
 #[tactic(auto, using(crate::proofs::Texts::unread))]
 pub fn is_name_at(row: &Row, at: usize) -> bool
     ensures { IsTrue result ↔ text_by IsName (column row.now at) }
@@ -47,6 +51,7 @@ pub(crate) fn is_identifier_at(row: &Row, at: usize) -> bool
     }
 }
 
+/// Whether a column of a shown row holds the text of a content type.
 #[tactic(auto, using(crate::proofs::Texts::unread))]
 pub fn is_content_type_at(row: &Row, at: usize) -> bool
     ensures { IsTrue result ↔ text_by IsContentType (column row.now at) }
@@ -67,6 +72,7 @@ pub(crate) fn is_stamp_at(row: &Row, at: usize) -> bool
     }
 }
 
+/// Whether a column of a shown row holds a text of so many bytes, from the least to the most.
 #[tactic(auto, using(crate::proofs::Texts::unread))]
 pub fn is_text_at(row: &Row, at: usize, least: usize, most: usize) -> bool
     ensures { IsTrue result ↔ text_by (IsText least most) (column row.now at) }
@@ -102,6 +108,7 @@ pub(crate) fn is_from(number: i64, low: i64, high: i64) -> bool
     low <= number && number <= high
 }
 
+/// Whether a column of a shown row holds a number from the low to the high one.
 pub fn is_within(row: &Row, at: usize, low: i64, high: i64) -> bool
     ensures { IsTrue result ↔ number_by (IsFrom low high) (column row.now at) }
 {
@@ -132,6 +139,7 @@ pub(crate) fn is_coordinate_if_any(row: &Row, at: usize, unit: Unit) -> bool
     is_within_if_any(row, at, -unit.farthest(), unit.farthest())
 }
 
+/// Whether a column of a shown row holds a pixel size, in the unit of the profile.
 pub fn is_pixel_size(row: &Row, at: usize, unit: Unit) -> bool
     ensures { IsTrue result ↔ number_by (IsPixelSize (profile_of unit)) (column row.now at) }
 {
@@ -151,5 +159,25 @@ pub fn is_blob_within(row: &Row, at: usize, most: usize) -> bool
     match blob(row, at) {
         Some(bytes) => is_long(bytes, most),
         None => false,
+    }
+}
+
+fn is_given(id: i64) -> bool
+    ensures { IsTrue result ↔ IsGiven id }
+{
+    id == 4326 || id == -1 || id == 0
+}
+
+/// Whether the numbers of a system are within their limits, which are wider for a given one.
+pub(crate) fn are_system_numbers(row: &Row, at: usize, other: usize) -> bool
+    ensures { IsTrue result ↔ numbers_by (number_of (column row.now at))
+        (number_of (column row.now other)) }
+{
+    match (number(row, at), number(row, other)) {
+        (Some(id), Some(organization_id)) => {
+            is_from(id, 1, LAST_ID as i64) && is_from(organization_id, 1, LAST_ID as i64)
+                || is_given(id) && is_from(organization_id, -1, LAST_ID as i64)
+        }
+        _ => false,
     }
 }

@@ -1,5 +1,5 @@
 -- How a migration comes to its ends.
-use Rattle.std.proofs.Common.{◌≡◌, ◌≢◌, inl, inr, ℕ, true, false, Option, Some, None, Result, Ok, Err, OnOk, refl, sym, ap, subst, ◌∙◌, arith}
+use Rattle.std.proofs.Common.{◌≡◌, ◌≢◌, inl, inr, Result, Ok, Err, OnOk, refl, sym, ap, subst, ◌∙◌, arith}
 use Rattle.sqlite.specs.Tree.{Trees}
 use Rattle.sqlite.specs.State.{State, HasCleanDisk, Survives, IsUnchanged}
 use Rattle.sqlite.proofs.StateLemmas.{survives_then, survives_weaker}
@@ -18,80 +18,12 @@ use Rattle.mm_store.proofs.Seen.{seen_of, settled_still}
 use Rattle.mm_store.proofs.Quiet.{quiet_then}
 use Rattle.mm_meta.specs.Look.{AnswersLook, IsLooked, Agrees, ShowsProfile}
 use Rattle.mm_meta.proofs.Looking.{asked_still}
-use Rattle.mm_check.specs.Verdict.{IsVerified}
-use Rattle.mm_check.specs.Form.{AreInForm, IsFormCheck, TellsForm}
-use Rattle.mm_check.proofs.Reading.{asked_stands, asked_fails, told_as_before, formed_for}
+use Rattle.mm_check.specs.Form.{TellsForm}
+use Rattle.mm_check.proofs.Reading.{told_as_before}
 use Rattle.mm_migrate.specs.Moves.{MayScale, IsRescaled}
-use Rattle.mm_migrate.specs.Migrations.{Judged, IsChecked, Adopts, Migrates, AdoptsSeen, MigratesSeen, ShowsEither, TellsNumber, NoNumber, OnlyStoreFaults, MayCommitScaled, IsMigration, IsOlder}
-
--- ---- the check
-
-module _ (profile : Profile) (old new : State) where
-  pub blobs_told : IsFormCheck old new AreInForm (Ok false) → IsChecked profile old new (Err opens.BadBlobs)
-  blobs_told it = record {
-    mode = it.mode;
-    survives = it.survives;
-    is_open = λ clean. tt;
-    seen = λ clean p s. it.seen clean profile p s;
-    settled = λ clean p s. it.settled clean profile p s;
-    says = λ clean p s. formed_for profile.version old p s.reads (asked_fails old new it clean) (it.same clean).0;
-    blobs = λ clean. asked_fails old new it clean;
-    no_number = tt;
-    faults = tt;
-  }
-
-  pub form_unknown : (fault : Fault) → IsFormCheck old new AreInForm (Err fault) → IsChecked profile old new (Err (opens.Fault fault))
-  form_unknown fault it = record { mode = it.mode; survives = it.survives; is_open = λ clean. tt; seen = λ clean p s. it.seen clean profile p s; settled = λ clean p s. it.settled clean profile p s; says = λ clean p s. tt; blobs = λ clean. tt; no_number = tt; faults = it.faults }
-
-module _ (profile : Profile) (old mid new : State) (formed : IsFormCheck old mid AreInForm (Ok true)) where
-  module _ {r : Result (Option ℕ) Fault} (it : IsVerified profile mid new r) where
-    before : HasCleanDisk new → HasCleanDisk mid
-    before clean = omega (arith, clean, it.survives.clean)
-
-    formed_seen : HasCleanDisk new → (p : Package) → IsSeenAs profile old p → IsSeenAs profile mid p
-    formed_seen clean p s = formed.seen (before clean) profile p s
-
-    formed_settled : HasCleanDisk new → (p : Package) → IsSettled profile old p → IsSettled profile mid p
-    formed_settled clean p s = formed.settled (before clean) profile p s
-
-  pub checked_well : IsVerified profile mid new (Ok None) → IsChecked profile old new (Ok tt)
-  checked_well it = record {
-    mode = λ none. it.mode (formed.mode none);
-    survives = quiet_then old mid new formed.survives it.survives;
-    is_open = it.is_open;
-    seen = λ clean p s. it.seen clean p (formed_seen it clean p s);
-    settled = λ clean p s. it.settled clean p (formed_settled it clean p s);
-    says = λ clean p s. it.says clean p (formed_seen it clean p s);
-    blobs = λ clean. asked_stands old mid formed (before it clean);
-    no_number = tt;
-    faults = tt;
-  }
-
-  pub rule_told : (rule : ℕ) → IsVerified profile mid new (Ok (Some rule)) → IsChecked profile old new (Err (opens.Rule rule))
-  rule_told rule it = record {
-    mode = λ none. it.mode (formed.mode none);
-    survives = quiet_then old mid new formed.survives it.survives;
-    is_open = λ clean. tt;
-    seen = λ clean p s. it.seen clean p (formed_seen it clean p s);
-    settled = λ clean p s. it.settled clean p (formed_settled it clean p s);
-    says = λ clean p s. it.says clean p (formed_seen it clean p s);
-    blobs = λ clean. asked_stands old mid formed (before it clean);
-    no_number = tt;
-    faults = tt;
-  }
-
-  pub check_stopped : (fault : Fault) → IsVerified profile mid new (Err fault) → IsChecked profile old new (Err (opens.Fault fault))
-  check_stopped fault it = record {
-    mode = λ none. it.mode (formed.mode none);
-    survives = quiet_then old mid new formed.survives it.survives;
-    is_open = λ clean. tt;
-    seen = λ clean p s. it.seen clean p (formed_seen it clean p s);
-    settled = λ clean p s. it.settled clean p (formed_settled it clean p s);
-    says = λ clean p s. tt;
-    blobs = λ clean. tt;
-    no_number = tt;
-    faults = it.faults;
-  }
+use Rattle.mm_migrate.specs.Migrations.{Adopts, Migrates, AdoptsSeen, MigratesSeen, ShowsEither, TellsNumber}
+use Rattle.mm_migrate.specs.Migrations.{MayCommitScaled, IsMigration, IsOlder}
+use Rattle.mm_check.specs.Checked.{Judged, IsChecked, NoNumber, OnlyStoreFaults}
 
 -- ---- what may be left
 

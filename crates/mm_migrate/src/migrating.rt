@@ -4,31 +4,14 @@ ghost use Rattle.std.specs.Prelude.{◌≡◌, ◌↔◌, pos, false, IfOk, IfEr
 ghost use Rattle.sqlite.specs.Held.{state};
 ghost use Rattle.mm_definitions.specs.Bounds.{millimetres};
 ghost use Rattle.mm_definitions.specs.declared.answers.Open.TheVariants as opens;
-ghost use Rattle.mm_definitions.specs.Units.{profile_of};
-ghost use Rattle.mm_migrate.specs.Migrations.{IsChecked, IsMigration, IsOlder};
+ghost use Rattle.mm_migrate.specs.Migrations.{IsMigration, IsOlder};
 
 use crate::scaling::rescale;
-use mm_check::{blobs_stand, verify};
+use mm_check::check_whole;
 use mm_definitions::answers::Open;
 use mm_definitions::units::{CURRENT, Unit};
 use mm_meta::look;
 use sqlite::{Alter, Connection};
-
-/// The form of the blobs, and then the whole check in a unit, with what fails told as an opening: 98, or the rule.
-fn check_in<S: Alter>(conn: &mut Connection<S>, unit: Unit) -> Result<(), Open>
-    ensures { IsChecked (profile_of unit) (state S.Store conn.old) (state S.Store conn.new) result }
-{
-    match blobs_stand(conn) {
-        Ok(true) => {}
-        Ok(false) => return Err(Open::BadBlobs),
-        Err(fault) => return Err(Open::Fault(fault)),
-    }
-    match verify(conn, unit) {
-        Ok(None) => Ok(()),
-        Ok(Some(rule)) => Err(Open::Rule(rule)),
-        Err(fault) => Err(Open::Fault(fault)),
-    }
-}
 
 /// Checks a package in millimetres, and tells it in micrometres.
 fn migrate_older<S: Alter>(conn: &mut Connection<S>) -> Result<(), Open>
@@ -36,7 +19,7 @@ fn migrate_older<S: Alter>(conn: &mut Connection<S>) -> Result<(), Open>
     ensures mode { conn.new.in_transaction ≡ false }
     ensures older { IsOlder (state S.Store conn.old) (state S.Store conn.new) result }
 {
-    check_in(conn, Unit::Millimetre)?;
+    check_whole(conn, Unit::Millimetre)?;
     match rescale(conn) {
         Ok(()) => Ok(()),
         Err(fault) => Err(Open::Fault(fault)),
@@ -60,7 +43,7 @@ fn migrate_on<S: Alter>(conn: &mut Connection<S>) -> Result<(), Open>
     ensures migrated { IsMigration (state S.Store conn.old) (state S.Store conn.new) result }
 {
     match look(conn) {
-        Ok(()) => check_in(conn, CURRENT),
+        Ok(()) => check_whole(conn, CURRENT),
         Err(why) => {
             if is_older(&why) {
                 migrate_older(conn)

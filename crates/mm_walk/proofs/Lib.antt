@@ -2,6 +2,7 @@ pub mod Given
 pub mod Walking
 pub mod Matches
 pub mod Testing
+pub mod Noting
 pub mod Quiet
 pub mod Resting
 pub mod Terms

@@ -1,5 +1,6 @@
 -- What a walk that tests each row tells of a query, and so of the database.
-use Rattle.std.specs.Prelude.{◌≡◌, ◌↔◌, ℕ, Bool, true, false, List, [], ◌∷◌, ◌++◌, filter, Result, IfOk, IfErr, OnOk, IsTrue, ⊤}
+use Rattle.std.specs.Prelude.{◌≡◌, ◌↔◌, ℕ, Bool, true, false, List, [], ◌∷◌, ◌++◌, filter, Option, is_some}
+use Rattle.std.specs.Prelude.{Result, Ok, Err, IfOk, IfErr, IfSome, OnOk, IsTrue, ⊤}
 use Rattle.std.specs.List.{AllByRecursion, list_all}
 use Rattle.sqlite.specs.Order.{Row}
 use Rattle.sql_forms.specs.Key.{Key}
@@ -55,3 +56,17 @@ pub record TellsAll (sql : List ℕ) (params : Row) (good : Row → Type 0) (old
       → (from : Join) (terms project : List Term) (order : List (Term × Key)) (names : List (List ℕ))
       → IsQuery schema sql from terms project order names → IfOk result (λ all. IsTrue all ↔ AllShown old.now.trees params from terms project good)
   pub faults : IfErr result IsStoreFault
+
+-- whether there is something, where no fault was met
+abbrev pub whether : {T : Type 0} → Result (Option T) Fault → Result Bool Fault
+whether (Ok found) = Ok (is_some found)
+whether (Err fault) = Err fault
+
+-- It commits nothing, and tells whether each row is good; where each is, something is noted of each.
+pub record NotesAll {T : Type 0} (sql : List ℕ) (params : Row) (good : Row → Type 0) (noted : T → Row → Type 0)
+    (old new : State) (result : Result (Option T) Fault) : Type 0 where
+  pub tests : TellsAll sql params good old new (whether result)
+  pub notes : HasCleanDisk new → (schema : Schema) → old.now.schema ≡ schema
+      → (from : Join) (terms project : List Term) (order : List (Term × Key)) (names : List (List ℕ))
+      → IsQuery schema sql from terms project order names
+      → IfOk result (λ found. IfSome found (λ it. AllShown old.now.trees params from terms project (noted it)))

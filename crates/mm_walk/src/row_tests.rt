@@ -1,10 +1,10 @@
-//! Whether each row of a query passes a test.
+//! Whether each row of a query passes a test, and what such a test notes of them.
 
 ghost use Rattle.std.specs.Prelude.{◌≡◌, ◌↔◌, Ok, Bool, IsTrue};
 ghost use Rattle.sqlite.specs.Order.{Row as Values};
 ghost use Rattle.sqlite.specs.Held.{state};
 ghost use Rattle.sqlite.specs.Values.{bound};
-ghost use Rattle.mm_walk.specs.RowTests.{TellsAll};
+ghost use Rattle.mm_walk.specs.RowTests.{TellsAll, NotesAll};
 
 use crate::walk::{Visitor, walk};
 use mm_definitions::answers::Fault;
@@ -47,4 +47,51 @@ pub fn each_passes<S: Alter, T: RowTest>(
 {
     let mut passing = Passing { test };
     walk(conn, sql, params, &mut passing)
+}
+
+/// A test of the rows that a query shows, which notes something of each.
+pub trait NotingTest {
+    ghost good: { Values → Type 0 };
+
+    // What is noted of a row that passed.
+    ghost noted: { Self → Values → Type 0 };
+
+    /// Whether the row passes. What was noted of others stays.
+    fn passes(&mut self, row: &Row) -> bool
+        ensures tells { IsTrue result ↔ good row.now }
+        ensures notes { IsTrue result → noted self.new row.now }
+        ensures keeps { (other : Values) → noted self.old other → noted self.new other };
+}
+
+/// A test that notes, as a visitor, which stops at the first row that fails it.
+#[derive(Clone, Copy)]
+struct Noting<T> {
+    inner: T,
+}
+
+impl<T: NotingTest> Visitor for Noting<T> {
+    ghost takes = { λ old row new result. (b : Bool) × (result ≡ Ok b) × (IsTrue b ↔ T.good row) × (IsTrue b → T.noted new.inner row) × ((other : Values) → T.noted old.inner other → T.noted new.inner other) };
+
+    fn take(&mut self, row: &Row) -> Result<bool, Fault> {
+        Ok(self.inner.passes(row))
+    }
+}
+
+/// The test with what it noted, where each row of a query passes it; None where one fails it. It goes over them as
+/// `walk` does, to the first that fails. A fault is 90 where memory was refused, and 91 where the store failed.
+pub fn each_noted<S: Alter, T: NotingTest + Copy>(
+    conn: &mut Connection<S>,
+    sql: &str,
+    params: &[ValueRef<'_>],
+    test: T,
+) -> Result<Option<T>, Fault>
+    ensures { NotesAll sql.now (bound params.now) T.good T.noted
+        (state S.Store conn.old) (state S.Store conn.new) result }
+{
+    let mut noting = Noting { inner: test };
+    match walk(conn, sql, params, &mut noting) {
+        Ok(true) => Ok(Some(noting.inner)),
+        Ok(false) => Ok(None),
+        Err(fault) => Err(fault),
+    }
 }

@@ -4,7 +4,7 @@ use Rattle.mm_migrate.proofs.Ends.{adopted, older, refused}
 use Rattle.mm_migrate.proofs.migrating.migrate_on.Goals as goal
 
 pub returns-in-Ok-clause-migrated : goal.returns-in-Ok-clause-migrated
-returns-in-Ok-clause-migrated g c = adopted (state g.S.Store c.args.conn.now) (state g.S.Store c.look.new.conn) (state g.S.Store c.check_in.new.conn) c.check_in.result c.in-Ok.ensures.looked c.check_in.ensures
+returns-in-Ok-clause-migrated g c = adopted (state g.S.Store c.args.conn.now) (state g.S.Store c.look.new.conn) (state g.S.Store c.check_whole.new.conn) c.check_whole.result c.in-Ok.ensures.looked c.check_whole.ensures
 
 pub returns-then-is_older-clause-migrated : goal.returns-then-is_older-clause-migrated
 returns-then-is_older-clause-migrated g c =

@@ -3,6 +3,14 @@
 //!
 //! No call here touches a store. The readers are exact on both sides: a value is read exactly where a text spells
 //! one within the limits, and is refused else by number.
+//!
+//! - `commands`, `answers`, `refusals`, `entries`: what is asked, what is answered, and what reads tell.
+//! - `limits`, `numbers`, `bounded`, `units`: limits, each in one place; numbers in their one spelling, and with limits.
+//! - `names`, `identifiers`, `content_types`, `texts`, `bytes`, `hexadecimal`: texts and bytes with their limits.
+//! - `extents`, `matrices`, `places`: where a map, its zooms and a tile are.
+//! - `moments`: moments and their texts.
+//! - `streams`, `ends`: readers and writers that remember a failure and their end.
+//! - `within`: laws that commands and pieces keep to the limits.
 #![tactic(auto)]
 
 pub mod answers;

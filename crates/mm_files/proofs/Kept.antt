@@ -117,7 +117,8 @@ module _ {D : Type 0} {g : Ghosts D} where
         left = λ clean left may. ∥∥₁_map
             (reads_again last (file.view last).is_open (numbered (calm clean)) (sound (calm clean)) left
             (left_by last left clean may))
-            (λ found. let r : (after : Trees) × (file_state conn).may_leave after × HoldsStill (file.view last).is_open left after =
+            (λ found. let r : (after : Trees) × (file_state conn).may_leave after
+            × HoldsStill (file.view last).is_open left after =
             (found.0, fewer _ found.1, found.2) in r);
       }
 
@@ -163,6 +164,7 @@ module _ {D Done : Type 0} {g : Ghosts D} {tells : Trees → Written → Written
     was_clean = λ clean. cleaned (kept.was_clean clean);
     told = λ clean. told (kept.was_clean clean);
     left = λ clean left may. ∥∥₁_map (kept.left clean left may)
-        (λ found. let r : (db : Trees) × leaves before.committed.trees db old new done × HoldsStill (file.view store).is_open left db =
+        (λ found. let r : (db : Trees) × leaves before.committed.trees db old new done
+        × HoldsStill (file.view store).is_open left db =
         (found.0, worked (kept.was_clean clean) found.0 found.1, found.2) in r);
   }

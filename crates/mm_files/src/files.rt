@@ -33,21 +33,26 @@ use std::io::Write;
 /// How many bytes a page has.
 const PAGE: u64 = 4096;
 
-/// How many pages are kept at the least: to make room for as many as the store would takes longer than all else of
-/// opening a small package.
-const FEWEST_PAGES: u64 = 512;
+/// How many pages are kept beside as many as the file has.
+const SPARE_PAGES: u64 = 64;
+
+/// How many pages are kept at the least for work that writes, which may fill a new package: to make room for as many as
+/// the store would takes longer than all else of opening a small one.
+const FEWEST_TO_WRITE: u64 = 512;
 
 /// How many pages are kept at the most, which is as many as the store would.
 const MOST_PAGES: u64 = 2000;
 
-/// How many pages of a file of this length are kept in memory, or of one that is to be new.
-fn pages_for(length: Option<u64>) -> usize {
-    (length.unwrap_or(0) / PAGE).clamp(FEWEST_PAGES, MOST_PAGES) as usize
+/// How many pages of a file of this length are kept in memory, or of one that is to be new, for work that writes or
+/// reads.
+fn pages_for(length: Option<u64>, writes: bool) -> usize {
+    let fewest = if writes { FEWEST_TO_WRITE } else { SPARE_PAGES };
+    let pages = length.unwrap_or(0) / PAGE;
+    pages.saturating_add(SPARE_PAGES).clamp(fewest, MOST_PAGES) as usize
 }
 
-/// How a file of this length is opened: as the store opens files, but for the pages that it keeps. 91 where the system
-/// gives no seed.
-fn options_for(rt: &HostRuntime, length: Option<u64>) -> Result<Options, Fault>
+/// How a file is opened: as the store opens files, but for the pages that it keeps. 91 where the system gives no seed.
+fn options_for(rt: &HostRuntime, pages: usize) -> Result<Options, Fault>
     ensures { IfErr result (λ fault. fault ≡ store) }
 {
     let seed = match RandomState::new(rt) {
@@ -55,7 +60,7 @@ fn options_for(rt: &HostRuntime, length: Option<u64>) -> Result<Options, Fault>
         Err(_) => return Err(Fault::STORE),
     };
     let mut options = Options::new(seed);
-    options.cache_pages = pages_for(length);
+    options.cache_pages = pages;
     Ok(options)
 }
 
@@ -136,11 +141,12 @@ fn files_to_use<D: Disk + Drop>(
     }
 }
 
-/// A connection to the file at a path, and the path that was opened.
+/// A connection to the file at a path, which keeps so many pages, and the path that was opened.
 fn open_files<'a, S: Start>(
     rt: &HostRuntime,
     path: &'a str,
     length: Option<u64>,
+    pages: usize,
     start: S,
 ) -> Result<(&'a str, Connection<FileStore<FileFrom<S>>>), (Left<'a, FileFrom<S>, S>, NotDone)>
     ensures mode { IfOk result (λ r. r.1.in_transaction ≡ false) }
@@ -160,7 +166,7 @@ fn open_files<'a, S: Start>(
         (λ e. TellsFileBytes ⟦<FileFrom<S> as Disk>⟧ (image_at S.Start) e.1 e.0) }
     ensures why { IfErr result (λ e. IsWhyNot length e.1) }
 {
-    let options = match options_for(rt, length) {
+    let options = match options_for(rt, pages) {
         Ok(options) => options,
         Err(fault) => return Err((Left::Untouched(start), NotDone::Fault(fault))),
     };
@@ -277,7 +283,8 @@ pub fn on_file<'a, S: Start, K: Works, W: Write>(
         (written W.contents output.old) (written W.contents output.new) e.0 e.1) }
     ensures out { IsOut output.old → IsOut output.new }
 {
-    let (path, conn) = match open_files(rt, path, length, start) {
+    let pages = pages_for(length, K::WRITES);
+    let (path, conn) = match open_files(rt, path, length, pages, start) {
         Ok(opened) => opened,
         Err(failed) => return Err(failed),
     };

@@ -18,6 +18,9 @@ pub trait Works {
     /// What it comes to.
     type Done: Copy;
 
+    /// Whether it may write to the package: then more pages are kept than a small one has.
+    const WRITES: bool;
+
     // By what was written before and then is.
     ghost comes_to: { Self → Written → Written → Self.Done → Type 0 };
 

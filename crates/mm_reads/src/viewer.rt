@@ -9,11 +9,12 @@ ghost use Rattle.mm_definitions.specs.Places.{tile_at};
 ghost use Rattle.mm_reads.specs.Told.{shown_medium};
 ghost use Rattle.mm_reads.specs.Contents as listing;
 ghost use Rattle.mm_reads.specs.Related.{mate_told};
-ghost use Rattle.mm_reads.specs.Shown.{mates, shown_tables};
+ghost use Rattle.mm_reads.specs.RowLists.{numbered_told};
+ghost use Rattle.mm_reads.specs.Shown.{mates, shown_rows, shown_tables};
 ghost use Rattle.mm_reads.specs.Viewers.{ShowsPart, IsOn, IsViewFault, LeavesPackage};
 
 use mm_definitions::answers::Fault;
-use mm_definitions::entries::{Entry, Media, Related};
+use mm_definitions::entries::{Entry, Media, Related, Row};
 use mm_definitions::names::Name;
 use mm_definitions::places::TilePlace;
 
@@ -62,6 +63,18 @@ pub trait Viewer {
         ensures value { ShowsPart
             (IsOn (Self.has_failed self.old) (Self.store self.old) (Self.store self.new))
             (λ v. map listing.table_told v.items) shown_tables result }
+        ensures ended { Self.has_failed self.old ≡ true → result ≡ Err reopen }
+        ensures fault { IfErr result (IsViewFault (Self.has_failed self.old)) };
+
+    /// The rows of an attribute table from an id on, each with its id, by rising id and 1,000 at most, or None where no
+    /// attribute table has the name.
+    fn rows(&mut self, table: &Name, first: i64) -> Result<Option<Vec<(i64, Row)>>, Fault>
+        ensures same { Self.has_failed self.new ≡ Self.has_failed self.old }
+        ensures kept { LeavesPackage (Self.store self.old) (Self.store self.new) }
+        ensures value { ShowsPart
+            (IsOn (Self.has_failed self.old) (Self.store self.old) (Self.store self.new))
+            (option_map (λ v. map numbered_told v.items)) (λ p. shown_rows p table.now first)
+            result }
         ensures ended { Self.has_failed self.old ≡ true → result ≡ Err reopen }
         ensures fault { IfErr result (IsViewFault (Self.has_failed self.old)) };
 }

@@ -1,4 +1,4 @@
-//! The rows of an attribute table as the records that write them, of anything that a desk works on.
+//! The rows of an attribute table as the records that write them, of anything that shows a package.
 //!
 //! - `records`: the records of some rows, as `csv` writes them.
 //! - `printing`: records that are printed.

@@ -21,8 +21,7 @@ use mm_definitions::entries::{Entry, Row};
 use mm_definitions::names::Name;
 use mm_definitions::refusals::Reason;
 use mm_definitions::streams::Io;
-use mm_desk::Desk;
-use mm_reads::MOST_ROWS;
+use mm_reads::{MOST_ROWS, Viewer};
 use std::alloc::Global;
 use std::io::Write;
 
@@ -49,57 +48,57 @@ fn next_first(rows: &[(i64, Row)]) -> Result<Option<i64>, Fault>
 }
 
 /// Prints some rows, the first from an id on, and reads those behind them.
-fn print_and_read<D: Desk, W: Write>(
+fn print_and_read<V: Viewer, W: Write>(
     alloc: Global,
-    desk: &mut D,
+    viewer: &mut V,
     table: &Name,
     rows: &[(i64, Row)],
     output: &mut Io<W>,
 ) -> Result<Option<Vec<(i64, Row)>>, Fault>
-    ensures same { D.Viewer.has_failed desk.new ≡ D.Viewer.has_failed desk.old }
-    ensures kept { LeavesPackage (D.store desk.old) (D.store desk.new) }
+    ensures same { V.has_failed viewer.new ≡ V.has_failed viewer.old }
+    ensures kept { LeavesPackage (V.store viewer.old) (V.store viewer.new) }
     ensures turned { (p : Package)
-        → IsOn (D.Viewer.has_failed desk.old) (D.store desk.old) (D.store desk.new) p
+        → IsOn (V.has_failed viewer.old) (V.store viewer.old) (V.store viewer.new) p
         → lists_rows p table.now ≡ true → (first : ℤ)
         → map numbered_told rows.now ≡ first_rows p table.now first
         → TurnsOn p table.now first (written W.contents output.old) (written W.contents output.new)
         result }
     ensures working { OnOk result (has_failed output.new ≡ has_failed output.old) }
     ensures out { IsOut output.old → IsOut output.new }
-    ensures writer { IfErr result (λ fault. D.Viewer.has_failed desk.old ≡ false
+    ensures writer { IfErr result (λ fault. V.has_failed viewer.old ≡ false
         → ListingTellsWriter (has_failed output.old) (has_failed output.new) (Err fault)) }
 {
     print_rows(alloc, table, rows, output)?;
     match next_first(rows)? {
-        Some(first) => desk.rows(table, first),
+        Some(first) => viewer.rows(table, first),
         None => Ok(None),
     }
 }
 
 /// Prints the rows of a table from an id on, of which these are the first.
-fn print_from<D: Desk, W: Write>(
+fn print_from<V: Viewer, W: Write>(
     alloc: Global,
-    desk: &mut D,
+    viewer: &mut V,
     table: &Name,
     first_of_all: Vec<(i64, Row)>,
     output: &mut Io<W>,
 ) -> Result<(), Fault>
-    ensures same { D.Viewer.has_failed desk.new ≡ D.Viewer.has_failed desk.old }
-    ensures kept { LeavesPackage (D.store desk.old) (D.store desk.new) }
+    ensures same { V.has_failed viewer.new ≡ V.has_failed viewer.old }
+    ensures kept { LeavesPackage (V.store viewer.old) (V.store viewer.new) }
     ensures printed { (p : Package)
-        → IsOn (D.Viewer.has_failed desk.old) (D.store desk.old) (D.store desk.new) p
+        → IsOn (V.has_failed viewer.old) (V.store viewer.old) (V.store viewer.new) p
         → lists_rows p table.now ≡ true → (first : ℤ)
         → map numbered_told first_of_all.items ≡ first_rows p table.now first
         → PrintsFrom p table.now first (written W.contents output.old)
         (written W.contents output.new) result }
     ensures working { OnOk result (has_failed output.new ≡ has_failed output.old) }
     ensures out { IsOut output.old → IsOut output.new }
-    ensures writer { IfErr result (λ fault. D.Viewer.has_failed desk.old ≡ false
+    ensures writer { IfErr result (λ fault. V.has_failed viewer.old ≡ false
         → ListingTellsWriter (has_failed output.old) (has_failed output.new) (Err fault)) }
 {
     let mut rows = first_of_all;
     for turn in 0..u64::MAX {
-        match print_and_read(alloc, desk, table, &rows, output)? {
+        match print_and_read(alloc, viewer, table, &rows, output)? {
             Some(more) => rows = more,
             None => return Ok(()),
         }
@@ -147,16 +146,16 @@ fn stands(tables: &[Entry], name: &Name) -> bool
 }
 
 /// Why no attribute table has a name: 25 where no table has it, and else 26.
-fn reason_of<D: Desk>(desk: &mut D, table: &Name) -> Result<Option<Reason>, Fault>
-    ensures same { D.Viewer.has_failed desk.new ≡ D.Viewer.has_failed desk.old }
-    ensures kept { LeavesPackage (D.store desk.old) (D.store desk.new) }
+fn reason_of<V: Viewer>(viewer: &mut V, table: &Name) -> Result<Option<Reason>, Fault>
+    ensures same { V.has_failed viewer.new ≡ V.has_failed viewer.old }
+    ensures kept { LeavesPackage (V.store viewer.old) (V.store viewer.new) }
     ensures why { IfOk result (λ why. (p : Package)
-        → IsOn (D.Viewer.has_failed desk.old) (D.store desk.old) (D.store desk.new) p
+        → IsOn (V.has_failed viewer.old) (V.store viewer.old) (V.store viewer.new) p
         → why ≡ Some (table_refusal p table.now)) }
     ensures some { IfOk result (λ why. IsSome why) }
-    ensures fault { IfErr result (IsViewFault (D.Viewer.has_failed desk.old)) }
+    ensures fault { IfErr result (IsViewFault (V.has_failed viewer.old)) }
 {
-    let tables = desk.contents()?;
+    let tables = viewer.contents()?;
     if stands(&tables, table) {
         Ok(Some(Reason::ANOTHER_KIND))
     } else {
@@ -165,18 +164,18 @@ fn reason_of<D: Desk>(desk: &mut D, table: &Name) -> Result<Option<Reason>, Faul
 }
 
 /// Prints all rows of a table, or the one of an id, of which these are the first that were read.
-fn show_found<D: Desk, W: Write>(
+fn show_found<V: Viewer, W: Write>(
     alloc: Global,
-    desk: &mut D,
+    viewer: &mut V,
     table: &Name,
     id: Option<i64>,
     rows: Vec<(i64, Row)>,
     output: &mut Io<W>,
 ) -> Result<Option<Reason>, Fault>
-    ensures same { D.Viewer.has_failed desk.new ≡ D.Viewer.has_failed desk.old }
-    ensures kept { LeavesPackage (D.store desk.old) (D.store desk.new) }
+    ensures same { V.has_failed viewer.new ≡ V.has_failed viewer.old }
+    ensures kept { LeavesPackage (V.store viewer.old) (V.store viewer.new) }
     ensures shown { (p : Package)
-        → IsOn (D.Viewer.has_failed desk.old) (D.store desk.old) (D.store desk.new) p
+        → IsOn (V.has_failed viewer.old) (V.store viewer.old) (V.store viewer.new) p
         → Meets current p → lists_rows p table.now ≡ true
         → map numbered_told rows.items ≡ first_rows p table.now (unwrap_or id (pos 1))
         → ShowsRecords p table.now id (written W.contents output.old) (written W.contents output.new)
@@ -184,13 +183,13 @@ fn show_found<D: Desk, W: Write>(
     ensures untold { IfOk result (λ why. IfSome why (λ number. output.new ≡ output.old)) }
     ensures working { OnOk result (has_failed output.new ≡ has_failed output.old) }
     ensures out { IsOut output.old → IsOut output.new }
-    ensures writer { IfErr result (λ fault. D.Viewer.has_failed desk.old ≡ false
+    ensures writer { IfErr result (λ fault. V.has_failed viewer.old ≡ false
         → ListingTellsWriter (has_failed output.old) (has_failed output.new) (Err fault)) }
 {
     match id {
         Some(id) => show_first(alloc, table, id, &rows, output),
         None => {
-            print_from(alloc, desk, table, rows, output)?;
+            print_from(alloc, viewer, table, rows, output)?;
             Ok(None)
         }
     }
@@ -202,31 +201,32 @@ fn show_found<D: Desk, W: Write>(
 ///
 /// # Errors
 ///
-/// At a fault a beginning of the records was printed: 97 where the output failed; 90 for want of memory, and 91 where the store
-/// failed or gave a value that no package has. 92 where the desk has to be opened again, and then nothing was printed.
-pub fn show_rows<D: Desk, W: Write>(
+/// At a fault a beginning of the records was printed: 97 where the output failed; 90 for want of memory, and 91 where
+/// the store failed or gave a value that no package has. 92 where the viewer has to be opened again, and then nothing
+/// was printed.
+pub fn show_rows<V: Viewer, W: Write>(
     alloc: Global,
-    desk: &mut D,
+    viewer: &mut V,
     table: &Name,
     id: Option<i64>,
     output: &mut Io<W>,
 ) -> Result<Option<Reason>, Fault>
-    ensures same { D.Viewer.has_failed desk.new ≡ D.Viewer.has_failed desk.old }
-    ensures kept { LeavesPackage (D.store desk.old) (D.store desk.new) }
+    ensures same { V.has_failed viewer.new ≡ V.has_failed viewer.old }
+    ensures kept { LeavesPackage (V.store viewer.old) (V.store viewer.new) }
     ensures shown { (p : Package)
-        → IsOn (D.Viewer.has_failed desk.old) (D.store desk.old) (D.store desk.new) p
+        → IsOn (V.has_failed viewer.old) (V.store viewer.old) (V.store viewer.new) p
         → ShowsRecords p table.now id (written W.contents output.old) (written W.contents output.new)
         result }
     ensures untold { IfOk result (λ why. IfSome why (λ number. output.new ≡ output.old)) }
     ensures working { OnOk result (has_failed output.new ≡ has_failed output.old) }
     ensures out { IsOut output.old → IsOut output.new }
-    ensures writer { IfErr result (λ fault. D.Viewer.has_failed desk.old ≡ false
+    ensures writer { IfErr result (λ fault. V.has_failed viewer.old ≡ false
         → ListingTellsWriter (has_failed output.old) (has_failed output.new) (Err fault)) }
-    ensures ended { D.Viewer.has_failed desk.old ≡ true
+    ensures ended { V.has_failed viewer.old ≡ true
         → (result ≡ Err faults.reopen) × (output.new ≡ output.old) }
 {
-    match desk.rows(table, id.unwrap_or(1))? {
-        Some(rows) => show_found(alloc, desk, table, id, rows, output),
-        None => reason_of(desk, table),
+    match viewer.rows(table, id.unwrap_or(1))? {
+        Some(rows) => show_found(alloc, viewer, table, id, rows, output),
+        None => reason_of(viewer, table),
     }
 }

@@ -16,8 +16,8 @@ use Rattle.mm_work.specs.Declined.{IsDeclined}
 use Rattle.mm_work.specs.declared.stop.Stop.{Stop}
 use Rattle.mm_work.specs.declared.stop.Stop.TheVariants as stops
 
--- It was adopted, and wrote nothing to the package, which meets the rules, and its text was printed, and it came to what
--- goes with that.
+-- It was adopted, and wrote nothing to the package, which meets the rules, and its text was printed, and it came to
+-- what goes with that.
 pub record IsTextShown {T : Type 0} (text : Package → Text) (came : Package → T) (old new : State)
     (held holds : Option (List ℕ)) (it : T) : Type 0 where
   pub survives : CommitsNothing old new

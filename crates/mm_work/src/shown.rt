@@ -18,8 +18,8 @@ use mm_definitions::answers::Fault;
 use mm_definitions::names::Name;
 use mm_definitions::refusals::Reason;
 use mm_definitions::streams::Io;
-use mm_desk::Desk;
 use mm_io::{Sent, send};
+use mm_reads::Viewer;
 use mm_show::show_rows;
 use sqlite::{Alter, Connection};
 use std::alloc::Global;
@@ -40,25 +40,25 @@ fn tell_reason<W: Write>(output: &mut Io<W>, reason: Reason) -> Result<u8, Fault
 }
 
 /// Prints rows, or why there are none to show, with the exit status that goes with it: 0, or 1.
-fn rows_told<D: Desk, W: Write>(
+fn rows_told<V: Viewer, W: Write>(
     alloc: Global,
-    desk: &mut D,
+    viewer: &mut V,
     table: &Name,
     id: Option<i64>,
     output: &mut Io<W>,
 ) -> Result<u8, Fault>
-    ensures kept { LeavesPackage (D.store desk.old) (D.store desk.new) }
+    ensures kept { LeavesPackage (V.store viewer.old) (V.store viewer.new) }
     ensures told { (p : Package)
-        → IsOn (D.Viewer.has_failed desk.old) (D.store desk.old) (D.store desk.new) p
+        → IsOn (V.has_failed viewer.old) (V.store viewer.old) (V.store viewer.new) p
         → TellsShownRows p table.now id (written W.contents output.old) (written W.contents output.new)
         result }
     ensures status { IfOk result (λ status. status ≤ 1) }
     ensures working { OnOk result (has_failed output.new ≡ has_failed output.old) }
-    ensures writer { IfErr result (λ fault. D.Viewer.has_failed desk.old ≡ false
+    ensures writer { IfErr result (λ fault. V.has_failed viewer.old ≡ false
         → ListingTellsWriter (has_failed output.old) (has_failed output.new) (Err fault)) }
     ensures out { IsOut output.old → IsOut output.new }
 {
-    match show_rows(alloc, desk, table, id, output)? {
+    match show_rows(alloc, viewer, table, id, output)? {
         Some(reason) => tell_reason(output, reason),
         None => Ok(DONE),
     }

@@ -8,7 +8,7 @@ use Rattle.mm_show.proofs.showing.print_from.Goals as goal
 pub loop-turn-init : goal.loop-turn-init
 loop-turn-init g c = record {
   same = refl;
-  kept = leaves_same (g.D.Viewer.store c.args.desk.now);
+  kept = leaves_same (g.V.Viewer.store c.args.viewer.now);
   printed = λ p on lists first read. printed_none p c.args.table.now first (g.W.Write.contents (inside c.args.output.now))
       (map numbered_told c.args.first_of_all.items) read;
   working = refl;

@@ -20,7 +20,7 @@ returns-in-None-clause-kept g c = leaves_then _ _ _ c.rows.ensures.kept c.reason
 pub returns-in-Some-clause-shown : goal.returns-in-Some-clause-shown
 returns-in-Some-clause-shown g c p on =
     let fits : SFits w64 c.unwrap_or.result = search rules in
-    elim (cases_Bool (g.D.Viewer.has_failed c.args.desk.now)) as
+    elim (cases_Bool (g.V.Viewer.has_failed c.args.viewer.now)) as
     (λ _. ShowsRecords p c.args.table.now c.args.id (written g.W.Write.contents c.args.output.now)
     (written g.W.Write.contents c.show_found.new.output) c.show_found.result) [
       | inl failed ↦ absurd (let f : Ok c.in_ok-rows.field-0 ≡ Err (record { 0 = 92 }) = sym c.in_ok-rows.was ∙ c.rows.ensures.ended failed in cc)

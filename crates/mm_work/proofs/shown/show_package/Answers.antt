@@ -11,20 +11,21 @@ pub returns-in-Ok-clause-shown : goal.returns-in-Ok-clause-shown
 returns-in-Ok-clause-shown g c =
     let old = state g.S.Store c.args.conn in
     let mid = state g.S.Store (connection c.in_ok-session.session) in
-    let new = state g.S.Store (connection c.rows_told.new.desk) in
+    let new = state g.S.Store (connection c.rows_told.new.viewer) in
     let adopted = c.in_ok-session.ensures.adopted in
     let kept = c.rows_told.ensures.kept in
     rw c.close.ensures
     (shows old mid new adopted kept.survives kept.settled (λ p. shown_text p c.args.table.now c.args.id)
     (λ p. shown_status p c.args.table.now c.args.id) (g.W.Write.contents (inside c.args.output.now))
     (g.W.Write.contents (inside c.rows_told.new.output)) c.in-Ok.status
-    (λ clean p s. (rw c.in_ok-session.ensures.working at c.in-Ok.ensures.told) p (on old mid new adopted kept clean p s)))
+    (λ clean p s. (rw c.in_ok-session.ensures.working at c.in-Ok.ensures.told) p
+    (on old mid new adopted kept clean p s)))
 
 pub returns-in-Err-clause-unshown : goal.returns-in-Err-clause-unshown
 returns-in-Err-clause-unshown g c =
     let old = state g.S.Store c.args.conn in
     let mid = state g.S.Store (connection c.in_ok-session.session) in
-    let new = state g.S.Store (connection c.rows_told.new.desk) in
+    let new = state g.S.Store (connection c.rows_told.new.viewer) in
     let adopted = c.in_ok-session.ensures.adopted in
     let kept = c.rows_told.ensures.kept in
     inr (

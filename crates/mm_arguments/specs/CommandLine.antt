@@ -127,12 +127,18 @@ start = record {
   subs = [];
 }
 
+-- the program with those subcommands that make a package and fill it
+abbrev pub with_changes : App
+with_changes = with_subcommand (with_subcommand (with_subcommand start init.top) run_subcommand.top) kit.top
+
+-- the same with those that look at a package
+abbrev pub with_looks : App
+with_looks = with_subcommand (with_subcommand (with_subcommand with_changes check.top) list.top) show.top
+
 -- the program with its ten subcommands
 abbrev pub command_line : App
 command_line =
-    with_subcommand (with_subcommand (with_subcommand (with_subcommand (with_subcommand (with_subcommand (with_subcommand (with_subcommand
-    (with_subcommand (with_subcommand start
-    init.top) run_subcommand.top) kit.top) check.top) list.top) show.top) serve.top) desk.top) migrate.top) explain.top
+    with_subcommand (with_subcommand (with_subcommand (with_subcommand with_looks serve.top) desk.top) migrate.top) explain.top
 
 -- ---- the values that are made of it
 

@@ -239,9 +239,9 @@ fn explain_command<'a>(alloc: Global) -> Result<Command<'a>, AllocError>
         .arg(answer_argument(alloc))
 }
 
-/// The whole command line.
-pub(crate) fn command<'a>(alloc: Global) -> Result<Command<'a>, AllocError>
-    ensures { IfOk result (IsCommand line.command_line) }
+/// The program, before its subcommands.
+fn program_command<'a>(alloc: Global) -> Command<'a>
+    ensures { IsCommand line.start result }
 {
     Command::new(alloc, "mmpkg")
         .version(texts::VERSION)
@@ -251,12 +251,33 @@ pub(crate) fn command<'a>(alloc: Global) -> Result<Command<'a>, AllocError>
         .after_help(texts::PROGRAM)
         .subcommand_required(true)
         .arg_required_else_help(true)
+}
+
+/// The program with its first subcommands: those that make a package and fill it.
+fn with_changes<'a>(alloc: Global) -> Result<Command<'a>, AllocError>
+    ensures { IfOk result (IsCommand line.with_changes) }
+{
+    program_command(alloc)
         .subcommand(init_command(alloc)?)?
         .subcommand(run_command(alloc)?)?
-        .subcommand(kit_command(alloc)?)?
+        .subcommand(kit_command(alloc)?)
+}
+
+/// The same with those that look at a package.
+fn with_looks<'a>(alloc: Global) -> Result<Command<'a>, AllocError>
+    ensures { IfOk result (IsCommand line.with_looks) }
+{
+    with_changes(alloc)?
         .subcommand(check_command(alloc)?)?
         .subcommand(list_command(alloc)?)?
-        .subcommand(show_command(alloc)?)?
+        .subcommand(show_command(alloc)?)
+}
+
+/// The whole command line.
+pub(crate) fn command<'a>(alloc: Global) -> Result<Command<'a>, AllocError>
+    ensures { IfOk result (IsCommand line.command_line) }
+{
+    with_looks(alloc)?
         .subcommand(serve_command(alloc)?)?
         .subcommand(desk_command(alloc)?)?
         .subcommand(migrate_command(alloc)?)?

@@ -3,19 +3,16 @@
 use csv::{ByteRecord, ReaderBuilder, StringRecord};
 use mm_definitions::limits::{MOST_MEDIA_BYTES, MOST_TILE_BYTES};
 use mm_definitions::refusals::{NO_FILE, OUT_OF_LIMITS};
-use mm_kit::FileName;
+use mm_kit::{FileName, MOST_LIST_BYTES};
 use mm_words::{is_piece_with_file, remark_on_piece};
 use std::io::Read;
 use std::{fs, io};
-
-/// The most bytes of a list.
-const LONGEST_LIST: u64 = 16_777_216;
 
 /// The record at this place of the list.
 fn record_at(rt: &HostRuntime, list: &str, place: u64) -> io::Result<Option<StringRecord>> {
     let file = fs::File::open(rt, list)?;
     let mut bytes = Vec::new(rt.alloc());
-    let _count = file.take(LONGEST_LIST).read_to_end(&mut bytes)?;
+    let _count = file.take(MOST_LIST_BYTES).read_to_end(&mut bytes)?;
     let mut rows = ReaderBuilder::new()
         .has_headers(false)
         .flexible(true)
@@ -36,7 +33,7 @@ fn tell_list(rt: &HostRuntime, list: &str, number: u8) -> io::Result<()> {
         NO_FILE => eprint!(rt; ": {list}"),
         OUT_OF_LIMITS => {
             let size = fs::metadata(rt, list)?.len();
-            eprint!(rt; ": {list} has {size} bytes, wanted are at most {LONGEST_LIST}")
+            eprint!(rt; ": {list} has {size} bytes, wanted are at most {MOST_LIST_BYTES}")
         }
         _ => Ok(()),
     }

@@ -27,6 +27,7 @@ pub struct Run {
 }
 
 impl Run {
+    /// A run of which nothing was read yet, of an input of so many bytes.
     pub fn new(alloc: Global, of: u64) -> Run {
         Run {
             alloc,
@@ -71,6 +72,7 @@ pub struct Ear<'a> {
 }
 
 impl<'a> Ear<'a> {
+    /// What hears a run, and tells people how far it is.
     pub fn new(
         rt: &'a HostRuntime,
         run: &'a Run,
@@ -139,6 +141,7 @@ pub struct Records<'a> {
 }
 
 impl<'a> Records<'a> {
+    /// The records of a run from its first on.
     pub fn new(alloc: Global, run: &'a Run) -> Records<'a> {
         let rows = ReaderBuilder::new()
             .has_headers(false)

@@ -1,14 +1,15 @@
 //! The lists of the page as JSON.
 
-ghost use Rattle.std.specs.Prelude.{◌≡◌, IfOk, map, string_bytes};
+ghost use Rattle.std.specs.Prelude.{◌≡◌, IfOk, None, Some, map, string_bytes};
 ghost use Rattle.serde_json.specs.View.{view};
 ghost use Rattle.mm_definitions.specs.Package.{kind_text};
 ghost use Rattle.mm_reads.specs.Contents as listing;
 ghost use Rattle.mm_reads.specs.Related.{mate_told};
-ghost use Rattle.mm_page.specs.Lists.{mate_data, mates_text, table_data, tables_text};
+ghost use Rattle.mm_page.specs.Lists.{mate_data, mates_text, table_data, table_data_at, tables_text};
 
 use mm_definitions::commands::Kind;
 use mm_definitions::entries::{Entry, Related};
+use mm_definitions::extents::Extent;
 use serde_json::{Value, json};
 use std::alloc::{AllocError, Global};
 
@@ -35,26 +36,46 @@ fn mate_value(alloc: Global, mate: &Related) -> Result<Value, AllocError>
     })
 }
 
+/// A pyramid, with its system and its extent.
+fn pyramid_value(
+    alloc: Global,
+    entry: &Entry,
+    system: i64,
+    extent: &Extent,
+) -> Result<Value, AllocError>
+    ensures { IfOk result (λ v. view v
+        ≡ table_data_at (listing.table_told entry.now) (Some (system, extent.now))) }
+{
+    json!(in alloc; {
+        "data_type": "tiles",
+        "extent": [extent.min_x(), extent.min_y(), extent.max_x(), extent.max_y()],
+        "identifier": entry.identifier.as_str(),
+        "kind": word_of(entry.kind),
+        "last_change": entry.last_change.as_str(),
+        "srs_id": system,
+        "table": entry.table.as_str()
+    })
+}
+
+/// Another table.
+fn attributes_value(alloc: Global, entry: &Entry) -> Result<Value, AllocError>
+    ensures { IfOk result (λ v. view v ≡ table_data_at (listing.table_told entry.now) None) }
+{
+    json!(in alloc; {
+        "data_type": "attributes",
+        "identifier": entry.identifier.as_str(),
+        "kind": word_of(entry.kind),
+        "last_change": entry.last_change.as_str(),
+        "table": entry.table.as_str()
+    })
+}
+
 fn table_value(alloc: Global, entry: &Entry) -> Result<Value, AllocError>
     ensures { IfOk result (λ v. view v ≡ table_data (listing.table_told entry.now)) }
 {
     match &entry.place {
-        Some((system, extent)) => json!(in alloc; {
-            "data_type": "tiles",
-            "extent": [extent.min_x(), extent.min_y(), extent.max_x(), extent.max_y()],
-            "identifier": entry.identifier.as_str(),
-            "kind": word_of(entry.kind),
-            "last_change": entry.last_change.as_str(),
-            "srs_id": *system,
-            "table": entry.table.as_str()
-        }),
-        None => json!(in alloc; {
-            "data_type": "attributes",
-            "identifier": entry.identifier.as_str(),
-            "kind": word_of(entry.kind),
-            "last_change": entry.last_change.as_str(),
-            "table": entry.table.as_str()
-        }),
+        Some((system, extent)) => pyramid_value(alloc, entry, *system, extent),
+        None => attributes_value(alloc, entry),
     }
 }
 

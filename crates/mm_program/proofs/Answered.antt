@@ -1,6 +1,7 @@
 -- One more request of a desk, and its line.
 use Rattle.std.proofs.Common.{◌≡◌, ◌∙◌, ◌+◌, ◌<◌, ◌⊎◌, ℕ, List, [], ◌∷◌, ◌++◌, length, Option, Ok, Err, Result}
-use Rattle.std.proofs.Common.{refl, sym, ap, subst, inl, inr, Bool, true, false, arith, length-append, append-nil, append_assoc}
+use Rattle.std.proofs.Common.{refl, sym, ap, subst, inl, inr, Bool, true, false, arith}
+use Rattle.std.proofs.Common.{length-append, append-nil, append_assoc}
 use Rattle.std.specs.Io.KnownBytes.{Appends}
 use Rattle.std.proofs.KnownBytes.{Appends-nil, Appends-trans}
 use Rattle.std.proofs.lemmas.Bool.{false≢true}
@@ -51,7 +52,9 @@ end_none (u ∷ us) t it one = (it.0, end_none us t it.1 one)
 
 texts_more : (all : List Told) (t : Told) → texts_of (all ++ t ∷ []) ≡ texts_of all ++ text_of t.result
 texts_more [] t = append-nil (text_of t.result)
-texts_more (u ∷ us) t = ap (λ l. text_of u.result ++ l) (texts_more us t) ∙ sym (append_assoc (text_of u.result) (texts_of us) (text_of t.result))
+texts_more (u ∷ us) t =
+    ap (λ l. text_of u.result ++ l) (texts_more us t)
+    ∙ sym (append_assoc (text_of u.result) (texts_of us) (text_of t.result))
 
 -- so many were answered, none ended the desk, and each line was printed whole
 pub record Went (count : ℕ) (all : List Told) (old new : Option (List ℕ)) (before failed : Bool) : Type 0 where
@@ -64,8 +67,8 @@ pub went_none : (held : Option (List ℕ)) (working : Bool) → Went 0 [] held h
 unfolding EndNone
 went_none held working = record { none = tt; many = refl; text = Appends-nil held; working = refl }
 
-module _ (count : ℕ) (all : List Told) (old held new : Option (List ℕ)) (before between failed : Bool) (it : Went count all old held before between)
-    (t : Told) (down : Bool) where
+module _ (count : ℕ) (all : List Told) (old held new : Option (List ℕ)) (before between failed : Bool)
+    (it : Went count all old held before between) (t : Told) (down : Bool) where
   lines : Appends held new (text_of t.result) → Appends old new (texts_of (all ++ t ∷ []))
   lines one = subst (λ l. Appends old new l) (sym (texts_more all t)) (Appends-trans _ _ _ _ _ it.text one)
 
@@ -99,7 +102,8 @@ module _ (count : ℕ) (all : List Told) (old held new : Option (List ℕ)) (bef
   )
 
 pub went_all : (count most : ℕ) (all : List Told) (old new : Option (List ℕ)) (before failed down : Bool)
-    → Went count all old new before failed → count ≡ most → AreTold most all down (written_as old before) (written_as new failed) 0
+    → Went count all old new before failed → count ≡ most
+    → AreTold most all down (written_as old before) (written_as new failed) 0
 went_all count most all old new before failed down it end = inl (it.none, it.many ∙ end, it.text, it.working, refl)
 
 -- a list that was run, and its line
@@ -112,6 +116,6 @@ list_turn failed run old new turn printed (inl is) goes over =
 list_turn failed run old new turn printed (inr is) goes over =
     subst (λ t. TellsTurn failed (Ok (dones.Ran run)) old new t) (sym is) (inl ((over is, refl), printed))
 
-pub turn_of : (t : Told) (result : Result Done PageFault) (failed : Bool) (old new : Written) (turn : Turn) → t.result ≡ result
-    → TellsTurn failed result old new turn → TellsTurn failed t.result old new turn
+pub turn_of : (t : Told) (result : Result Done PageFault) (failed : Bool) (old new : Written) (turn : Turn)
+    → t.result ≡ result → TellsTurn failed result old new turn → TellsTurn failed t.result old new turn
 turn_of t result failed old new turn is it = subst (λ r. TellsTurn failed r old new turn) (sym is) it

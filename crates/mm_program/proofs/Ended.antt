@@ -1,5 +1,6 @@
 -- What is told of work on a file that was done, or was not.
-use Rattle.std.proofs.Common.{◌≡◌, ◌⊎◌, ℕ, Bool, true, Option, Result, Ok, Err, IfOk, IfErr, inl, inr, refl, sym, ap, subst}
+use Rattle.std.proofs.Common.{◌≡◌, ◌⊎◌, ℕ, Bool, true, Option, Result, Ok, Err, IfOk, IfErr, inl, inr}
+use Rattle.std.proofs.Common.{arith, refl, sym, ap, subst}
 use Rattle.std.specs.Prelude.{◌==◌, ◌≢◌, not}
 use Rattle.sqlite_disk.specs.declared.Disk.{Ghosts}
 use Rattle.sqlite.specs.Tree.{Trees}
@@ -15,8 +16,8 @@ use Rattle.mm_program.specs.Desks.{IsKey, IsSeated, TellsSeat}
 use Rattle.mm_program.specs.Files.{IsUndone, WorkEnds, WorksOnFile}
 use Rattle.mm_program.specs.Served.{EndsWell, PrintsNothing, ServiceEnds}
 use Rattle.mm_program.specs.Stops.{StopsAny, StopsCheck, StopsNew, StopsOld}
-use Rattle.mm_program.specs.Told.{CameTo, IsOutcome}
-use Rattle.mm_program.specs.Worked.{StatusEnds, closes_done, closes_run}
+use Rattle.mm_program.specs.Told.{IsOutcome, TellsWork}
+use Rattle.mm_program.specs.Worked.{ShowingEnds, StatusEnds, closes_done, closes_run}
 
 -- what holds of each thing that the work comes to, and of each cause for which it is not done, holds of what is told
 ended : {D S T : Type 0} {g : Ghosts D} (IsCause : Stop → Type 0)
@@ -152,17 +153,27 @@ module _ (Serves : Written → Written → ℕ → Type 0) where
         inl (subst (λ (r : ℕ). Serves old new r) (sym is) (subst (λ (w : Written). Serves old w status) same it.0))
     serves between (Err why) it told = inr (why, between, it.1, told)
 
-    pub service_tells : {D S : Type 0} {g : Ghosts D} (left : Left D S g)
-        → CameTo g old new result left (ServiceEnds Serves) closes_run (λ (status : ℕ). status)
-        → TellsServing old new result
+    pub service_tells : {D S : Type 0} (g : Ghosts D) (image : Image) (path : Text) (left : Left D S g)
+        (tells : Trees → Written → Result ℕ Stop → Type 0)
+        (leaves : Trees → Trees → Written → Result ℕ Stop → Type 0)
+        → TellsWork g image path old new result left (λ (status : ℕ). status) (ServiceEnds Serves) tells leaves
+        closes_run → TellsServing old new result
     unfolding HasServed
-    service_tells left (between, outcome, ends, is) =
+    service_tells g image path left tells leaves (between, outcome, ends, (undone, is), unprinted, files) =
         serves between outcome
         (ended StopsOld (ServiceEnds Serves) closes_run old between (HasServed between)
         (λ done came. has_served between done came)
         (λ why cause undone. (tt, ended_well Serves old between why undone)) outcome left ends) is
 
--- a desk by a key
+-- ---- rows of a table
+
+pub showing_ends : (old new : Written) (done : Result ℕ Stop) → ShowingEnds old new done
+    → StatusEnds (λ status. status) old new done
+showing_ends old new (Ok status) ((few, same), it) = ((omega (arith, few), inr same), tt)
+showing_ends old new (Err why) it = (tt, it.1)
+
+-- ---- a desk by a key
+
 pub seats : (port count : ℕ) (key : Text) (table : Option Text) (old new : Written) (result : ℕ) → IsKey key
     → TellsServing (IsSeated port count key table) old new result → TellsSeat port count table old new result
 seats port count key table old new result is (inl seated) = inr (inl (key, is, seated))

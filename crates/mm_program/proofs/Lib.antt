@@ -1,6 +1,7 @@
 pub mod Left
 pub mod Told
 pub mod Life
+pub mod Uses
 pub mod ServiceFacts
 pub mod Attending
 pub mod Off

@@ -1,7 +1,7 @@
 -- From one run of the program to the next.
 use Rattle.std.proofs.Common.{arith, ◌≡◌, ℕ, List, [], ◌∷◌, Option, Some, Result, Ok, Err, Bool, IfErr, inl, inr}
 use Rattle.std.proofs.Common.{refl, sym, subst}
-use Rattle.std.specs.Prelude.{⊤, true, false}
+use Rattle.std.specs.Prelude.{⊤, true}
 use Rattle.std.proofs.Math.Logic.{∥∥₁_elim, ∥∥₁_map}
 use Rattle.sqlite_disk.specs.declared.Disk.{Ghosts}
 use Rattle.sqlite.specs.Tree.{Trees}
@@ -20,7 +20,6 @@ use Rattle.mm_definitions.specs.declared.answers.Open.{Open}
 use Rattle.mm_definitions.specs.declared.answers.Open.TheVariants as opens
 use Rattle.mm_laws.proofs.Opened.{opened}
 use Rattle.mm_core.proofs.Failing.{none_fails}
-use Rattle.mm_core.specs.Opening.{HasNoTable}
 use Rattle.mm_core.specs.Adopted.{Declines}
 use Rattle.mm_core.specs.Applied.{StandsForCurrent}
 use Rattle.mm_definitions.specs.declared.answers.KitFault.{KitFault}
@@ -31,7 +30,6 @@ use Rattle.mm_kit.specs.Imports.{HasAnswered, IsImportAnswered}
 use Rattle.mm_kit.specs.Lists.{IsKitList}
 use Rattle.mm_kit.specs.declared.entries.KitEntry.{KitEntry}
 use Rattle.mm_store.proofs.Single.{stands_once}
-use Rattle.mm_files.specs.Files.{HoldNoByte}
 use Rattle.mm_files.specs.Worked.{IsLeftOpen}
 use Rattle.mm_files.specs.declared.left.Opened.{Opened}
 use Rattle.mm_files.specs.declared.left.Unclosed.{Unclosed}
@@ -207,24 +205,6 @@ module _ {D : Type 0} (g : Ghosts D) (image : Image) (path : Text) (opened_at : 
       → IsLife first uses next → ∥ LivesOn next opening uses ∥₁
   begins_life first may uses next life =
       ∥∥₁_elim (begins first may) squash₁ (λ it. lives_on uses first next life it.0 opening it.2 it.1 (opened current))
-
--- where the files could not be closed behind the making
-module _ {D : Type 0} (g : Ghosts D) (image : Image) (path : Text) (why : Stop) (it : Unclosed D g) where
-  stands_made : (done : Result (Unit {0}) Stop) → closes_done done ≡ true → (found after : Trees) → HasNoTable found
-      → LeavesMade found after done → StandsForCurrent after opening
-  stands_made (Ok made) ended found after none leaves = leaves none
-  stands_made (Err why) ended found after none leaves = absurd (let e : false ≡ true = ended in cc)
-
-  pub begins_unclosed : HoldNoByte image → OffClose g image path (λ found done. ⊤) LeavesMade closes_done why it
-      → (next : Image) → IsLeftOpen g it next → ∥ LivesOn next opening [] ∥₁
-  unfolding IsLife
-  begins_unclosed none off next on =
-      let (done, ended, all) = off.2 in
-      let (found, is, told, left) = all on.clean in
-      ∥∥₁_elim (left next on.left) squash₁ (λ x. ∥∥₁_elim (x.2.holds on.up) squash₁ (λ held.
-      lives_on [] next next refl x.0 opening held
-      (stands_made done ended found x.0 ∣ empty_is_sound found (is.nothing (inl (inl none.1))) ∣₁ x.1)
-      (opened current)))
 
 -- ---- how it is checked
 

@@ -1,5 +1,6 @@
 -- What is printed of requests that a desk answered one behind another, and the exit status that goes with it.
-use Rattle.std.specs.Prelude.{◌≡◌, ◌≤◌, ◌⊎◌, ◌++◌, ⊤, ℕ, List, [], ◌∷◌, Bool, true, false, Result, Ok, Err, length, map, take}
+use Rattle.std.specs.Prelude.{◌≡◌, ◌≤◌, ◌⊎◌, ◌++◌, ⊤, ℕ, List, [], ◌∷◌, Bool, true, false, Result, Ok, Err}
+use Rattle.std.specs.Prelude.{length, map, take}
 use Rattle.std.specs.List.{concat}
 use Rattle.std.specs.Io.KnownBytes.{Appends}
 use Rattle.mm_definitions.specs.Streams.{Written}
@@ -53,11 +54,12 @@ unfoldable pub EndNone : List Told → Type 0
 EndNone [] = ⊤
 EndNone (t ∷ ts) = EndsNot t × EndNone ts
 
--- As many were answered as were to be, and none ended the desk; or the last did, by its answer or by a command that failed; or the line of
--- the last could not be printed whole. The lines of all stand in turn.
+-- As many were answered as were to be, and none ended the desk; or the last did, by its answer or by a command that
+-- failed; or the line of the last could not be printed whole. The lines of all stand in turn.
 abbrev pub AreTold : ℕ → List Told → Bool → Written → Written → ℕ → Type 0
 AreTold count all failed old new status =
-    (EndNone all × (length all ≡ count) × Appends old.contents new.contents (texts_of all) × (new.failed ≡ old.failed) × (status ≡ 0))
+    (EndNone all × (length all ≡ count) × Appends old.contents new.contents (texts_of all)
+    × (new.failed ≡ old.failed) × (status ≡ 0))
     ⊎ ((first : List Told) × (last : Told) × (all ≡ first ++ last ∷ []) × EndNone first × (length all ≤ count)
     × ((IsLast failed last.result status × Appends old.contents new.contents (texts_of all) × (new.failed ≡ old.failed))
     ⊎ ((new.failed ≡ true) × (status ≡ 3) × (taken : ℕ) × (taken ≤ length (text_of last.result))

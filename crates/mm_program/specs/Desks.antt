@@ -95,8 +95,8 @@ IsSeated port count key table old new status =
 abbrev pub WasSeated : ℕ → ℕ → Text → Option Text → Written → Written → Type 0
 WasSeated port count key table = EndsWell (IsSeated port count key table)
 
--- By some key the desk was there; or why it was not is told, also where the files could not be closed behind it; or a key
--- of the environment was refused, which tells no contract its bytes.
+-- By some key the desk was there; or why it was not is told, also where the files could not be closed behind it; or a
+-- key of the environment was refused, which tells no contract its bytes.
 abbrev pub TellsSeat : ℕ → ℕ → Option Text → Written → Written → ℕ → Type 0
 TellsSeat port count table old new result =
     IsTold old new (codes "refused 11\n") 1 result

@@ -59,7 +59,8 @@ abbrev pub TellsChecked : Trees → Result (Unit {0}) Stop → Type 0
 TellsChecked found (Ok done) = WasFoundWell found
 TellsChecked found (Err why) = TellsDeclined found why
 
--- the package is declined, and nothing was printed; or it meets the rules, and a fault ended the text behind a beginning
+-- the package is declined, and nothing was printed; or it meets the rules, and a fault ended the text behind its
+-- beginning
 abbrev pub IsTextEnded : Text → Package → Written → Written → Stop → Type 0
 IsTextEnded text p old new why =
     (IsDeclinedFor p why × (new ≡ old))

@@ -5,6 +5,7 @@ pub mod Desks
 pub mod Explained
 pub mod Left
 pub mod Life
+pub mod Uses
 pub mod Told
 pub mod Served
 pub mod Worked

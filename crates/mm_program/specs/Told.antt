@@ -22,14 +22,15 @@ use Rattle.mm_arguments.specs.declared.requests.Request.{Request}
 use Rattle.mm_arguments.specs.declared.requests.Request.TheVariants as asked
 use Rattle.mm_files.specs.declared.left.Left.{Left}
 use Rattle.mm_files.specs.Worked.{IsUnprinted}
-use Rattle.mm_program.specs.Desks.{LeavesDesk, TellsDesk, TellsSat, table_of}
+use Rattle.mm_program.specs.Desks.{IsDeskDone, IsKey, LeavesDesk, TellsDesk, TellsSat, table_of}
 use Rattle.mm_program.specs.Explained.{TellsExplained}
 use Rattle.mm_program.specs.Files.{IsUntouched, OnFile, StopsNew, StopsOld, WasBare, WorkEnds}
 use Rattle.mm_program.specs.Left.{LeavesImport, LeavesMade, LeavesMigrated, LeavesRun, LeavesSame}
 use Rattle.mm_program.specs.Left.{TellsChecked, TellsImport, TellsListing, TellsMigrated, TellsRun, TellsServed}
 use Rattle.mm_program.specs.Left.{TellsShown}
 use Rattle.mm_program.specs.Served.{TellsServe}
-pub use Rattle.mm_program.specs.Stops.{StopsCheck}
+pub use Rattle.mm_program.specs.Stops.{StopsAny, StopsCheck}
+use Rattle.mm_program.specs.Worked.{IsPageServed, RunEnds, ShowingEnds, StatusEnds}
 use Rattle.mm_program.specs.Worked.{closes_done, closes_import, closes_run}
 use Rattle.mm_definitions.specs.Streams.{Written}
 
@@ -68,22 +69,18 @@ abbrev pub EndsInOutcome : {T : Type 0} → (T → ℕ) → Written → Written 
 EndsInOutcome status old between new outcome result =
     IfErr outcome (λ why. (between ≡ old) ⊎ (stop_status why ≡ 3)) × IsOutcome status between new outcome result
 
--- Work on the file that is there came to this, or was not done, and then its outcome is told.
-abbrev pub CameTo : {D S T : Type 0} (g : Ghosts D) → Written → Written → ℕ → Left D S g
-    → (Written → Written → Result T Stop → Type 0) → (Result T Stop → Bool) → (T → ℕ) → Type 0
-CameTo {T = T} g old new result left comes_to closes status =
-    (between : Written) × (outcome : Result T Stop) × WorkEnds StopsOld comes_to closes old between outcome left
-    × IsOutcome status between new outcome result
-
 module _ {D S : Type 0} (g : Ghosts D) (image : Image) (path : Text) (old new : Written) (result : ℕ)
     (left : Left D S g) where
-  -- Work on the file that is there was done, or not, and then told as its outcome; it printed nothing where it was not
-  -- begun; and it tells of the database that was found, and leaves of the files, this, by what it printed.
-  abbrev pub TellsWork : {T : Type 0} → (T → ℕ) → (Trees → Written → Result T Stop → Type 0)
-      → (Trees → Trees → Written → Result T Stop → Type 0) → (Result T Stop → Bool) → Type 0
-  TellsWork {T} status tells leaves closes =
-      (between : Written) × (outcome : Result T Stop) × EndsInOutcome status old between new outcome result
-      × IsUnprinted g old between left × OnFile g image path StopsOld (λ found done. tells found between done)
+  -- Work on the file that is there came to this, or was not done, and then its outcome is told; it printed nothing
+  -- where it was not begun; and it tells of the database that was found, and leaves of the files, this, by what it
+  -- printed.
+  abbrev pub TellsWork : {T : Type 0} → (T → ℕ) → (Written → Written → Result T Stop → Type 0)
+      → (Trees → Written → Result T Stop → Type 0) → (Trees → Trees → Written → Result T Stop → Type 0)
+      → (Result T Stop → Bool) → Type 0
+  TellsWork {T} status comes_to tells leaves closes =
+      (between : Written) × (outcome : Result T Stop) × WorkEnds StopsOld comes_to closes old between outcome left
+      × EndsInOutcome status old between new outcome result × IsUnprinted g old between left
+      × OnFile g image path StopsOld (λ found done. tells found between done)
       (λ found after done. leaves found after between done) closes outcome left
 
   -- `init` tells one of its outcomes and nothing else; files that it works on hold no byte, and then the new package
@@ -107,7 +104,7 @@ module _ {D S : Type 0} (g : Ghosts D) (image : Image) (path : Text) (old new : 
 
   -- `list` prints the listing of the package that was found, which is as it was
   abbrev pub TellsList : Type 0
-  TellsList = TellsWork (λ done. 0) (λ found between done. TellsListing found old between done)
+  TellsList = TellsWork (λ done. 0) (StatusEnds (λ done. 0)) (λ found between done. TellsListing found old between done)
       (λ found after between done. LeavesSame found after) closes_done
 
   -- `show` prints the rows of a table of the package that was found, which is as it was; a table's name that is none
@@ -115,7 +112,7 @@ module _ {D S : Type 0} (g : Ghosts D) (image : Image) (path : Text) (old new : 
   abbrev pub TellsShow : Text → Option ℤ → Type 0
   TellsShow table id =
       (¬ (IsName table) × IsTold old new (codes "refused 12\n") 1 result × IsUntouched left)
-      ⊎ (IsName table × TellsWork (λ status. status)
+      ⊎ (IsName table × TellsWork (λ status. status) ShowingEnds
       (λ found between done. TellsShown table id found old between done)
       (λ found after between done. LeavesSame found after) closes_run)
 
@@ -124,7 +121,7 @@ module _ {D S : Type 0} (g : Ghosts D) (image : Image) (path : Text) (old new : 
   abbrev pub TellsRan : Option (List ℕ) → Option ℕ → Type 0
   TellsRan source at =
       ((at ≡ None) × IsTold old new (codes "refused 11\n") 1 result × IsUntouched left)
-      ⊎ ((moment : ℕ) × IfSome at (λ given. moment ≡ given) × TellsWork (λ status. status)
+      ⊎ ((moment : ℕ) × IfSome at (λ given. moment ≡ given) × TellsWork (λ status. status) RunEnds
       (λ found between done. TellsRun found done)
       (λ found after between done. LeavesRun source moment found after old between done) closes_run)
 
@@ -139,17 +136,19 @@ module _ {D S : Type 0} (g : Ghosts D) (image : Image) (path : Text) (old new : 
       × OnFile g image path StopsOld TellsImport (LeavesImport None edition) closes_import outcome left)
 
   -- `serve` serves the package that was found, which is as it was
-  abbrev pub TellsService : Type 0
-  TellsService = TellsWork (λ status. status) (λ found between done. TellsServed found done)
-      (λ found after between done. LeavesSame found after) closes_run
+  abbrev pub TellsService : ℕ → ℕ → Type 0
+  TellsService port count = TellsWork (λ status. status) (IsPageServed port count)
+      (λ found between done. TellsServed found done) (λ found after between done. LeavesSame found after) closes_run
 
-  -- `desk` shows the package that was found and runs lists on it; where a key or a table's name was refused no file is opened
-  abbrev pub TellsSitting : Type 0
-  TellsSitting =
+  -- `desk` shows the package that was found and runs lists on it, by some key; where a key or a table's name was
+  -- refused, or no key could be had, no file is opened
+  abbrev pub TellsSitting : ℕ → ℕ → Option Text → Type 0
+  TellsSitting port count table =
       ((IsTold old new (codes "refused 11\n") 1 result ⊎ IsTold old new (codes "refused 12\n") 1 result)
       × IsUntouched left)
-      ⊎ TellsWork (λ status. status) (λ found between done. TellsSat found done)
-      (λ found after between done. LeavesDesk found after done) closes_run
+      ⊎ ((why : Stop) × StopsAny why × IsTold old new (stop_text why) (stop_status why) result × IsUntouched left)
+      ⊎ ((key : Text) × IsKey key × TellsWork (λ status. status) (IsDeskDone port count key table)
+      (λ found between done. TellsSat found done) (λ found after between done. LeavesDesk found after done) closes_run)
 
 -- ---- the program
 
@@ -168,9 +167,10 @@ TellsRequest g image source (asked.Show file table id) old new result left =
     TellsDecline old new result × TellsShow g image file.now old new result left table.now id
 TellsRequest g image source (asked.Migrate file) old new result left = TellsMigrate g image file.now old new result left
 TellsRequest g image source (asked.Serve file port count) old new result left =
-    TellsServe port count old new result × TellsService g image file.now old new result left
+    TellsServe port count old new result × TellsService g image file.now old new result left port count
 TellsRequest g image source (asked.Desk file port count page) old new result left =
-    TellsDesk port count (table_of page) old new result × TellsSitting g image file.now old new result left
+    TellsDesk port count (table_of page) old new result
+    × TellsSitting g image file.now old new result left port count (table_of page)
 TellsRequest g image source (asked.Explain answer) old new result left =
     TellsExplained answer.now old new result × IsUntouched left
 

@@ -1,5 +1,5 @@
 -- What work on a file comes to, by what was printed before and then is, and behind what the files are closed.
-use Rattle.std.specs.Prelude.{◌≡◌, ◌≤◌, ◌⊎◌, ◌==◌, ℕ, Bool, true, false, not, Result, Ok, Err, IfOk, IfErr}
+use Rattle.std.specs.Prelude.{◌≡◌, ◌≤◌, ◌⊎◌, ◌==◌, ⊤, ℕ, Bool, true, false, not, Result, Ok, Err, IfOk, IfErr}
 use Rattle.mm_definitions.specs.Streams.{Written}
 use Rattle.mm_definitions.specs.declared.answers.KitFault.{KitFault}
 use Rattle.mm_definitions.specs.declared.answers.Staged.{Staged}
@@ -33,6 +33,16 @@ abbrev pub StatusEnds : {T : Type 0} → (T → ℕ) → Written → Written →
 StatusEnds status old new done =
     IfOk done (λ it. (status it ≤ 3) × ((status it ≡ 3) ⊎ (new.failed ≡ old.failed)))
     × IfErr done (λ why. (new ≡ old) ⊎ (stop_status why ≡ 3))
+
+-- rows of a table were shown, with 0 or 1; or why they were not is a fault, or nothing was printed
+abbrev pub ShowingEnds : Written → Written → Result ℕ Stop → Type 0
+ShowingEnds old new done =
+    IfOk done (λ status. (status ≤ 1) × (new.failed ≡ old.failed))
+    × IfErr done (λ why. (new ≡ old) ⊎ (stop_status why ≡ 3))
+
+-- records were answered, or none was, and then nothing was printed
+abbrev pub RunEnds : Written → Written → Result ℕ Stop → Type 0
+RunEnds = ServiceEnds (λ old new status. ⊤)
 
 -- the page was served to so many connections, or was not
 abbrev pub IsPageServed : ℕ → ℕ → Written → Written → Result ℕ Stop → Type 0

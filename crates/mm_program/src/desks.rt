@@ -213,6 +213,8 @@ fn desk_port<S: Alter, W: Write>(
 impl<'a> Works for DeskWork<'a> {
     type Done = Result<u8, Stop>;
 
+    const WRITES: bool = true;
+
     ghost comes_to = { λ work. IsDeskDone work.port work.count work.key.now (table_of work.page) };
 
     ghost tells = { λ work found old new done. TellsSat found done };
@@ -268,7 +270,8 @@ pub(crate) fn desk_told<'a, S: Start, W: Write>(
     ensures told { TellsDesk port count (table_of page.entry)
         (written W.contents output.old) (written W.contents output.new) result.0 }
     ensures sitting { TellsSitting ⟦<FileFrom<S> as Disk>⟧ (image_at S.Start) path.now
-        (written W.contents output.old) (written W.contents output.new) result.0 result.1 }
+        (written W.contents output.old) (written W.contents output.new) result.0 result.1
+        port count (table_of page.entry) }
     ensures status { result.0 ≤ 4 }
     ensures unprinted { TellsFailure (streams.has_failed output.old)
         (streams.has_failed output.new) result.0 }

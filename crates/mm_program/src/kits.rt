@@ -89,6 +89,15 @@ fn folder_fault(error: io::Error) -> FolderFault {
     }
 }
 
+/// For how many bytes of a file there is room at first: for all of them, or for `most`, and for one behind them, by which
+/// its end is seen; for none where the system doesn't tell how long it is.
+fn room_for(file: &fs::File, most: u64) -> usize {
+    match file.metadata() {
+        Ok(found) => found.len().min(most).saturating_add(1) as usize,
+        Err(_) => 0,
+    }
+}
+
 /// The bytes of a file, where they are `most` at most.
 fn read_file(rt: &HostRuntime, path: &str, name: &str, most: u64) -> Result<Found, FolderFault>
     ensures { IfOk result (IsFew most) }
@@ -101,7 +110,9 @@ fn read_file(rt: &HostRuntime, path: &str, name: &str, most: u64) -> Result<Foun
         Err(error) if error.kind() == io::ErrorKind::NotFound => return Ok(Found::Missing),
         Err(error) => return Err(folder_fault(error)),
     };
-    let mut bytes = Vec::new(rt.alloc());
+    let Ok(mut bytes) = Vec::with_capacity(rt.alloc(), room_for(&file, most)) else {
+        return Err(FolderFault::Memory);
+    };
     match file.take(most.saturating_add(1)).read_to_end(&mut bytes) {
         Ok(_) if bytes.len() as u64 > most => Ok(Found::TooLong),
         Ok(_) => Ok(Found::Bytes(bytes)),
@@ -144,6 +155,8 @@ struct Importing<'a, F: Folder> {
 
 impl<'a, F: Folder> Works for Importing<'a, F> {
     type Done = Result<Import, Stop>;
+
+    const WRITES: bool = true;
 
     ghost comes_to = { λ work old new done. ⊤ };
 

@@ -26,6 +26,8 @@ struct Migration;
 impl Works for Migration {
     type Done = Result<(), Stop>;
 
+    const WRITES: bool = true;
+
     ghost comes_to = { λ work old new done. IfErr done StopsCheck };
 
     ghost tells = { λ work found old new done. TellsMigrated found done };

@@ -6,7 +6,7 @@ ghost use Rattle.mm_definitions.specs.Streams.{Written, has_failed, written};
 ghost use Rattle.mm_core.specs.Writing.{IsOut};
 ghost use Rattle.mm_work.specs.Told.{TellsFailure};
 ghost use Rattle.mm_work.specs.declared.stop.Stop.{Stop as Why};
-ghost use Rattle.mm_program.specs.Told.{CameTo, TellsDecline, TellsWork};
+ghost use Rattle.mm_program.specs.Told.{TellsDecline, TellsWork};
 ghost use Rattle.mm_program.specs.Worked.{StatusEnds};
 
 use crate::files::on_old;
@@ -54,11 +54,9 @@ pub(crate) fn work_and_tell<'a, S: Start, T: Exits, K: Works<Done = Result<T, St
         → K.comes_to work.now old new done → StatusEnds T.status old new done }
     ensures declined { TellsDecline (written W.contents output.old)
         (written W.contents output.new) result.0 }
-    ensures came { CameTo ⟦<FileFrom<S> as Disk>⟧ (written W.contents output.old)
-        (written W.contents output.new) result.0 result.1 (K.comes_to work.old) K.closes T.status }
     ensures told { TellsWork ⟦<FileFrom<S> as Disk>⟧ (image_at S.Start) path.now
         (written W.contents output.old) (written W.contents output.new) result.0 result.1 T.status
-        (λ found between done.
+        (K.comes_to work.old) (λ found between done.
         K.tells work.old found (written W.contents output.old) between done)
         (λ found after between done.
         K.leaves work.old found after (written W.contents output.old) between done) K.closes }

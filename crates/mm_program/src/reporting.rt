@@ -27,6 +27,8 @@ struct Check;
 impl Works for Check {
     type Done = Result<(), Stop>;
 
+    const WRITES: bool = false;
+
     ghost comes_to = { λ work old new done. IfErr done StopsCheck };
 
     ghost tells = { λ work found old new done. TellsChecked found done };
@@ -75,6 +77,8 @@ struct Listing;
 
 impl Works for Listing {
     type Done = Result<(), Stop>;
+
+    const WRITES: bool = false;
 
     ghost comes_to = { λ work. StatusEnds (λ listed. 0) };
 

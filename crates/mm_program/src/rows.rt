@@ -7,7 +7,7 @@ ghost use Rattle.mm_core.specs.Writing.{IsOut};
 ghost use Rattle.mm_work.specs.Told.{TellsFailure};
 ghost use Rattle.mm_program.specs.Left.{LeavesSame, TellsShown};
 ghost use Rattle.mm_program.specs.Told.{TellsDecline, TellsShow};
-ghost use Rattle.mm_program.specs.Worked.{StatusEnds, closes_run};
+ghost use Rattle.mm_program.specs.Worked.{ShowingEnds, closes_run};
 
 use crate::files::ends_well;
 use crate::outcomes::work_and_tell;
@@ -30,7 +30,9 @@ struct Showing<'a> {
 impl<'a> Works for Showing<'a> {
     type Done = Result<u8, Stop>;
 
-    ghost comes_to = { λ work. StatusEnds (λ status. status) };
+    const WRITES: bool = false;
+
+    ghost comes_to = { λ work. ShowingEnds };
 
     ghost tells = { λ work. TellsShown work.table.now work.id };
 

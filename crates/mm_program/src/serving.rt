@@ -105,6 +105,8 @@ struct Page<'a> {
 impl<'a> Works for Page<'a> {
     type Done = Result<u8, Stop>;
 
+    const WRITES: bool = false;
+
     ghost comes_to = { λ work. IsPageServed work.port work.count };
 
     ghost tells = { λ work found old new done. TellsServed found done };
@@ -147,7 +149,8 @@ pub(crate) fn serve_told<'a, S: Start, W: Write>(
     ensures told { TellsServe port count (written W.contents output.old)
         (written W.contents output.new) result.0 }
     ensures served { TellsService ⟦<FileFrom<S> as Disk>⟧ (image_at S.Start) path.now
-        (written W.contents output.old) (written W.contents output.new) result.0 result.1 }
+        (written W.contents output.old) (written W.contents output.new) result.0 result.1
+        port count }
     ensures status { result.0 ≤ 4 }
     ensures unprinted { TellsFailure (streams.has_failed output.old)
         (streams.has_failed output.new) result.0 }

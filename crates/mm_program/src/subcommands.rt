@@ -12,7 +12,7 @@ ghost use Rattle.mm_work.specs.Told.{TellsFailure};
 ghost use Rattle.mm_program.specs.Files.{StopsNew};
 ghost use Rattle.mm_program.specs.Left.{LeavesMade, LeavesRun, TellsRun};
 ghost use Rattle.mm_program.specs.Told.{TellsDecline, TellsInit, TellsRan, TellsStatus, TellsWords};
-ghost use Rattle.mm_program.specs.Worked.{StatusEnds, closes_done, closes_run};
+ghost use Rattle.mm_program.specs.Worked.{RunEnds, closes_done, closes_run};
 
 use crate::clock::{Now, moment_or_now};
 use crate::desks::desk_told;
@@ -44,6 +44,8 @@ struct Making;
 
 impl Works for Making {
     type Done = Result<(), Stop>;
+
+    const WRITES: bool = true;
 
     ghost comes_to = { λ work old new done. IfErr done StopsNew };
 
@@ -80,7 +82,9 @@ struct Run<'a, R: Read> {
 impl<'a, R: Read> Works for Run<'a, R> {
     type Done = Result<u8, Stop>;
 
-    ghost comes_to = { λ work. StatusEnds (λ status. status) };
+    const WRITES: bool = true;
+
+    ghost comes_to = { λ work. RunEnds };
 
     ghost tells = { λ work found old new done. TellsRun found done };
 

@@ -1,10 +1,10 @@
 //! A package of profile 1 on disks in memory that stop while it is migrated.
 
-use crate::recovery::{after_crash, files_of};
+use crate::recovery::{after_crash, files_of, put_new, session_on};
 use mm_core::Session;
-use mm_test_packages::{FINER, PYRAMID, answers, create, open};
-use sqlite::{Alter, Connection, FileStore};
-use sqlite_disk::{Crash, Fuse, Memory};
+use mm_test_packages::{FINER, PYRAMID, answers};
+use sqlite::{Alter, Connection, FileStore, Files};
+use sqlite_disk::Crash;
 use std::alloc::Global;
 use std::fmt::Write;
 use std::test::Fail;
@@ -16,14 +16,18 @@ UPDATE gpkg_tile_matrix_set SET min_x = min_x / 1000, min_y = min_y / 1000, max_
 UPDATE gpkg_tile_matrix SET pixel_x_size = pixel_x_size / 1000, pixel_y_size = pixel_y_size / 1000;
 UPDATE mm_profile SET version = 1";
 
-/// A connection to a package of profile 1, with a pyramid of two matrices.
-fn older(alloc: Global, calls: u64) -> Option<Connection<FileStore<Fuse<Memory>>>> {
-    let mut session = create(alloc, open(alloc, files_of(alloc, calls))?)?;
-    answers(alloc, &mut session, PYRAMID.as_bytes())?;
-    answers(alloc, &mut session, FINER.as_bytes())?;
-    let mut conn = session.close();
+/// A connection whose package is told so.
+fn told_older<S: Alter + Drop>(conn: Connection<S>) -> Option<Connection<S>> {
+    let mut conn = conn;
     conn.execute_batch(OLDER).ok()?;
     Some(conn)
+}
+
+/// A connection to a package of profile 1 in these files, with a pyramid of two matrices; None where they take none.
+fn older<D: Crash + Drop>(alloc: Global, files: Files<D>) -> Option<Connection<FileStore<D>>> {
+    let mut session = session_on(alloc, files, PYRAMID.as_bytes())?;
+    answers(alloc, &mut session, FINER.as_bytes())?;
+    told_older(session.close())
 }
 
 /// The numbers that a change of unit changes, each query a line.
@@ -69,18 +73,29 @@ fn migrated<S: Alter + Drop>(alloc: Global, conn: Connection<S>) -> Option<(bool
     }
 }
 
+/// Those numbers after a migration that ends.
+fn numbers_after<S: Alter + Drop>(alloc: Global, conn: Connection<S>) -> Option<String> {
+    let (true, mut conn) = migrated(alloc, conn)? else {
+        return None;
+    };
+    numbers_in(alloc, &mut conn)
+}
+
+/// The numbers that are found, and those after a migration.
+fn found_again<S: Alter + Drop>(alloc: Global, conn: Connection<S>) -> Option<(String, String)> {
+    let mut conn = conn;
+    let found = numbers_in(alloc, &mut conn)?;
+    Some((found, numbers_after(alloc, conn)?))
+}
+
 /// Whether a migration ended, the numbers that are found when its files have crashed, and those after one more migration.
 fn found_after<D: Crash + Drop>(
     alloc: Global,
     conn: Connection<FileStore<D>>,
 ) -> Option<(bool, String, String)> {
     let (ended, conn) = migrated(alloc, conn)?;
-    let mut conn = after_crash(alloc, conn)?;
-    let found = numbers_in(alloc, &mut conn)?;
-    let (true, mut conn) = migrated(alloc, conn)? else {
-        return None;
-    };
-    Some((ended, found, numbers_in(alloc, &mut conn)?))
+    let (found, again) = found_again(alloc, after_crash(alloc, conn)?)?;
+    Some((ended, found, again))
 }
 
 /// How a finding is told.
@@ -95,9 +110,9 @@ fn finding(ended: bool, found: &str, again: &str) -> &'static str {
     }
 }
 
-/// The same on a log that takes so many calls; None where it takes no package.
-fn finding_within(alloc: Global, calls: u64) -> Option<&'static str> {
-    let conn = older(alloc, calls)?;
+/// The same in these files; None where they take no package.
+fn finding_in<D: Crash + Drop>(alloc: Global, files: Files<D>) -> Option<&'static str> {
+    let conn = older(alloc, files)?;
     let Some((ended, found, again)) = found_after(alloc, conn) else {
         return Some("not opened\n");
     };
@@ -108,10 +123,8 @@ fn finding_within(alloc: Global, calls: u64) -> Option<&'static str> {
 fn findings(alloc: Global) -> Option<String> {
     let mut text = String::new(alloc);
     for calls in 0..2000u64 {
-        if let Some(found) = finding_within(alloc, calls) {
-            if !text.ends_with(found) {
-                text.push_str(found).ok()?;
-            }
+        if let Some(found) = finding_in(alloc, files_of(alloc, calls)) {
+            put_new(&mut text, found)?;
             if found == "migrated\n" {
                 return Some(text);
             }

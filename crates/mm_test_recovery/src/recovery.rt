@@ -1,6 +1,7 @@
 //! Disks in memory that stop, and the package that is found when they are opened again.
 
 use mm_core::Session;
+use mm_definitions::answers::{RunFault, Tally};
 use mm_definitions::moments::Moment;
 use mm_definitions::names::Name;
 use mm_definitions::places::TilePlace;
@@ -54,6 +55,14 @@ stage,e,4,row,spots,2,Gate,,0
 publish,e
 ";
 
+/// Puts a line on a text that doesn't end with it.
+pub(crate) fn put_new(text: &mut String, line: &str) -> Option<()> {
+    if text.ends_with(line) {
+        return Some(());
+    }
+    text.push_str(line).ok()
+}
+
 /// How many tables there are after so many of the records, and how many of the four pieces of the edition are done.
 fn stands_after(done: u64) -> (usize, usize) {
     let tables = usize::from(done > 0) + usize::from(done > 2);
@@ -66,18 +75,40 @@ fn has_finer<S: Alter>(alloc: Global, session: &mut Session<S>) -> Option<bool> 
     Some(told.as_str() == "1 refused 30\n")
 }
 
-/// The same of a session's package.
-fn found_in<S: Alter + Drop>(alloc: Global, session: Session<S>) -> Option<(usize, usize)> {
-    let mut session = session;
+/// How many tables there are in a package.
+fn tables_in<S: Alter>(session: &mut Session<S>) -> Option<usize> {
+    Some(session.contents().ok()?.len())
+}
+
+/// Whether the package has the row of this number.
+fn has_row<S: Alter>(session: &mut Session<S>, id: i64) -> Option<bool> {
     let spots = Name::read("spots")?;
+    Some(session.row(&spots, id).ok()?.is_some())
+}
+
+/// Whether the package has the tile.
+fn has_tile<S: Alter>(session: &mut Session<S>) -> Option<bool> {
     let base = Name::read("base")?;
-    let tables = session.contents().ok()?.len();
-    let first = session.row(&spots, 1).ok()?.is_some();
-    let second = session.row(&spots, 2).ok()?.is_some();
-    let tile = session.tile(&base, A_TILE).ok()?.is_some();
-    let matrix = has_finer(alloc, &mut session)?;
+    Some(session.tile(&base, A_TILE).ok()?.is_some())
+}
+
+/// What `stands_after` tells, of a session's package.
+fn found_in<S: Alter>(alloc: Global, session: &mut Session<S>) -> Option<(usize, usize)> {
+    let tables = tables_in(session)?;
+    let first = has_row(session, 1)?;
+    let second = has_row(session, 2)?;
+    let tile = has_tile(session)?;
+    let matrix = has_finer(alloc, session)?;
     let rows = usize::from(first) + usize::from(second);
     Some((tables, rows + usize::from(tile) + usize::from(matrix)))
+}
+
+/// How many records a run acknowledged, and whether it met no stop.
+fn done_in(ran: Result<Tally, RunFault>) -> (u64, bool) {
+    match ran {
+        Ok(tally) => (tally.accepted, true),
+        Err(stopped) => (stopped.tally.accepted, false),
+    }
 }
 
 /// A run whose files then crash: how many records it acknowledged, whether it met no stop, and the session that is then adopted.
@@ -96,11 +127,8 @@ fn run_and_crash<D: Crash + Drop>(
         at,
         Options::new(7),
     );
-    let again = again.ok()?;
-    match ran {
-        Ok(tally) => Some((tally.accepted, true, again)),
-        Err(stopped) => Some((stopped.tally.accepted, false, again)),
-    }
+    let (done, ended) = done_in(ran);
+    Some((done, ended, again.ok()?))
 }
 
 /// Whether so many acknowledged records, or one more, make what is found.
@@ -111,13 +139,13 @@ fn is_first_part(done: u64, found: Option<(usize, usize)>) -> bool {
     }
 }
 
-/// What is found after a run on a log that takes so many calls, and whether the run met no stop; None where it takes no package.
-fn found_after(alloc: Global, calls: u64) -> Option<(&'static str, bool)> {
-    let session = create(alloc, open(alloc, files_of(alloc, calls))?)?;
-    let Some((done, ended, again)) = run_and_crash(alloc, session) else {
+/// What is found after a run on these files, and whether the run met no stop; None where they take no package.
+fn found_after<D: Crash + Drop>(alloc: Global, files: Files<D>) -> Option<(&'static str, bool)> {
+    let session = create(alloc, open(alloc, files)?)?;
+    let Some((done, ended, mut again)) = run_and_crash(alloc, session) else {
         return Some(("no package", false));
     };
-    if is_first_part(done, found_in(alloc, again)) {
+    if is_first_part(done, found_in(alloc, &mut again)) {
         Some(("a first part", ended))
     } else {
         Some(("no first part", false))
@@ -128,11 +156,9 @@ fn found_after(alloc: Global, calls: u64) -> Option<(&'static str, bool)> {
 fn findings(alloc: Global) -> Option<String> {
     let mut text = String::new(alloc);
     for calls in 0..2000u64 {
-        if let Some((found, ended)) = found_after(alloc, calls) {
+        if let Some((found, ended)) = found_after(alloc, files_of(alloc, calls)) {
             let line = format!(in alloc; "{found}, ended: {ended}\n").ok()?;
-            if !text.ends_with(line.as_str()) {
-                text.push_str(line.as_str()).ok()?;
-            }
+            put_new(&mut text, line.as_str())?;
             if ended {
                 return Some(text);
             }
@@ -168,19 +194,17 @@ fn answer_twice<S: Alter + Drop>(alloc: Global, session: Session<S>) -> Option<S
     format!(in alloc; "{}{}", first.as_str(), second.as_str()).ok()
 }
 
-/// The same on a log that takes so many calls; None where it takes no package.
-fn answers_within(alloc: Global, calls: u64) -> Option<String> {
-    answer_twice(alloc, create(alloc, open(alloc, files_of(alloc, calls))?)?)
+/// The same on a new package in these files; None where they take none.
+fn answers_on<D: Crash + Drop>(alloc: Global, files: Files<D>) -> Option<String> {
+    answer_twice(alloc, create(alloc, open(alloc, files)?)?)
 }
 
 /// What is answered on disks that take more and more calls, one answer a text, up to the first that meets no fault.
 fn answers_up_to_all(alloc: Global) -> Option<String> {
     let mut text = String::new(alloc);
     for calls in 0..1000u64 {
-        if let Some(told) = answers_within(alloc, calls) {
-            if !text.ends_with(told.as_str()) {
-                text.push_str(told.as_str()).ok()?;
-            }
+        if let Some(told) = answers_on(alloc, files_of(alloc, calls)) {
+            put_new(&mut text, told.as_str())?;
             if told.starts_with("1 ok") {
                 return Some(text);
             }
@@ -224,9 +248,9 @@ fn making<S: Alter + Drop>(alloc: Global, conn: Connection<S>) -> Option<(bool, 
     }
 }
 
-/// The same on a log that takes so many calls, and what is found after a crash; None where no file is opened.
-fn made_within(alloc: Global, calls: u64) -> Option<(bool, &'static str)> {
-    let (made, conn) = making(alloc, open(alloc, files_of(alloc, calls))?)?;
+/// The same on these files, and what is found after a crash; None where they are not opened.
+fn made_within<D: Crash + Drop>(alloc: Global, files: Files<D>) -> Option<(bool, &'static str)> {
+    let (made, conn) = making(alloc, open(alloc, files)?)?;
     match after_crash(alloc, conn) {
         Some(conn) => Some((made, standing(alloc, conn))),
         None => Some((made, "no file")),
@@ -237,11 +261,9 @@ fn made_within(alloc: Global, calls: u64) -> Option<(bool, &'static str)> {
 fn makings(alloc: Global) -> Option<String> {
     let mut text = String::new(alloc);
     for calls in 0..2000u64 {
-        if let Some((made, found)) = made_within(alloc, calls) {
+        if let Some((made, found)) = made_within(alloc, files_of(alloc, calls)) {
             let line = format!(in alloc; "{found}, made: {made}\n").ok()?;
-            if !text.ends_with(line.as_str()) {
-                text.push_str(line.as_str()).ok()?;
-            }
+            put_new(&mut text, line.as_str())?;
             if made {
                 return Some(text);
             }
@@ -283,9 +305,7 @@ fn second_makings(alloc: Global) -> Option<String> {
     for calls in 0..2000u64 {
         let (told, made) = made_on(alloc, files_of(alloc, calls));
         let line = format!(in alloc; "{told}, then made: {made}\n").ok()?;
-        if !text.ends_with(line.as_str()) {
-            text.push_str(line.as_str()).ok()?;
-        }
+        put_new(&mut text, line.as_str())?;
         if told == "at once" {
             return Some(text);
         }
@@ -316,63 +336,72 @@ fn finds_what_was_made_before(rt: HostRuntime) -> Result<(), Fail> {
     Ok(())
 }
 
+/// A session on a new package in these files after these records; None where they take no package.
+pub(crate) fn session_on<D: Crash + Drop>(
+    alloc: Global,
+    files: Files<D>,
+    records: &[u8],
+) -> Option<Session<FileStore<D>>> {
+    let mut session = create(alloc, open(alloc, files)?)?;
+    answers(alloc, &mut session, records)?;
+    Some(session)
+}
+
 /// What is found of a package after all the records, once its files are closed and opened again.
-fn found_closed(alloc: Global) -> Option<(usize, usize)> {
-    let mut session = create(alloc, open(alloc, files_of(alloc, u64::MAX))?)?;
-    answers(alloc, &mut session, RECORDS)?;
+fn found_closed<D: Crash + Drop>(alloc: Global, files: Files<D>) -> Option<(usize, usize)> {
+    let session = session_on(alloc, files, RECORDS)?;
     match close_and_adopt(alloc, session, Options::new(7)) {
-        Ok(again) => found_in(alloc, again),
+        Ok(mut again) => found_in(alloc, &mut again),
         Err(_) => None,
     }
 }
 
 #[test]
 fn adopts_what_was_closed(rt: HostRuntime) -> Result<(), Fail> {
-    let found = found_closed(rt.alloc()).expect(&rt, "a package");
+    let found = found_closed(rt.alloc(), files_of(rt.alloc(), u64::MAX)).expect(&rt, "a package");
     assert_eq!(rt; found, stands_after(10));
     Ok(())
 }
 
-/// The files of a package with one table, which was let go on a log that takes so many calls in all; None where it takes no package.
-fn lost(alloc: Global, calls: u64) -> Option<Files<Fuse<Memory>>> {
-    let mut session = create(alloc, open(alloc, files_of(alloc, calls))?)?;
-    answers(alloc, &mut session, b"table,spots,attributes,Spots\n")?;
+/// These files with a package of one table, which was let go; None where they take no package.
+fn lost<D: Crash + Drop>(alloc: Global, files: Files<D>) -> Option<Files<D>> {
+    let session = session_on(alloc, files, b"table,spots,attributes,Spots\n")?;
     Some(let_go(session.close()))
 }
 
-/// How many tables there are in a package.
-fn tables_in<S: Alter + Drop>(session: Session<S>) -> Option<usize> {
-    let mut session = session;
-    Some(session.contents().ok()?.len())
+/// How many tables are found in a package that is adopted from the files that a stopped recovery left, behind a crash.
+fn found_at_last<D: Crash + Drop>(alloc: Global, left: Files<D>) -> Option<(bool, usize)> {
+    match adopt_left(alloc, crash_files(left), Options::new(7)) {
+        Ok(mut again) => Some((true, tables_in(&mut again)?)),
+        Err(_) => None,
+    }
 }
 
-/// Whether a recovery from files is stopped, and how many tables are found in the end: where it is, the files that it leaves crash,
-/// and the package is adopted from them.
+/// Whether a recovery from files is stopped, and how many tables are found in the end.
 fn gone_on<D: Crash + Drop>(alloc: Global, files: Files<D>) -> Option<(bool, usize)> {
     if !files.may_be_used() {
         return None;
     }
-    let left = match adopt_left(alloc, files, Options::new(7)) {
-        Ok(again) => return Some((false, tables_in(again)?)),
-        Err(NotBegun::Declined(conn, _)) => let_go(conn),
-        Err(NotBegun::Unopened(stop)) => stop.into_files(),
-    };
-    match adopt_left(alloc, crash_files(left), Options::new(7)) {
-        Ok(again) => Some((true, tables_in(again)?)),
-        Err(_) => None,
+    match adopt_left(alloc, files, Options::new(7)) {
+        Ok(mut again) => Some((false, tables_in(&mut again)?)),
+        Err(NotBegun::Declined(conn, _)) => found_at_last(alloc, let_go(conn)),
+        Err(NotBegun::Unopened(stop)) => found_at_last(alloc, stop.into_files()),
     }
+}
+
+/// The same of the package that was lost in these files; None where they take no package.
+fn found_of_lost<D: Crash + Drop>(alloc: Global, files: Files<D>) -> Option<Option<(bool, usize)>> {
+    Some(gone_on(alloc, lost(alloc, files)?))
 }
 
 /// What recoveries come to on logs that take more and more calls, each new one on a line, up to the first that meets no stop.
 fn recoveries(alloc: Global) -> Option<String> {
     let mut text = String::new(alloc);
     for calls in 0..2000u64 {
-        if let Some(files) = lost(alloc, calls) {
-            let (stopped, found) = gone_on(alloc, files)?;
+        if let Some(found) = found_of_lost(alloc, files_of(alloc, calls)) {
+            let (stopped, found) = found?;
             let line = format!(in alloc; "stopped: {stopped}, tables: {found}\n").ok()?;
-            if !text.ends_with(line.as_str()) {
-                text.push_str(line.as_str()).ok()?;
-            }
+            put_new(&mut text, line.as_str())?;
             if !stopped {
                 return Some(text);
             }
@@ -392,8 +421,7 @@ fn goes_on_where_a_recovery_stopped(rt: HostRuntime) -> Result<(), Fail> {
 }
 
 /// What two lists of this record answer, with a close between them, on a package that is made on new files.
-fn told_in_two(alloc: Global, record: &[u8]) -> Option<String> {
-    let files = files_of(alloc, u64::MAX);
+fn told_in_two<D: Crash + Drop>(alloc: Global, files: Files<D>, record: &[u8]) -> Option<String> {
     if !files.may_be_used() {
         return None;
     }
@@ -415,7 +443,9 @@ fn told_in_two(alloc: Global, record: &[u8]) -> Option<String> {
 
 #[test]
 fn lives_through_a_close(rt: HostRuntime) -> Result<(), Fail> {
-    let told = told_in_two(rt.alloc(), b"srs,5001,A,NONE,1,undefined,\n").expect(&rt, "two lists");
+    let files = files_of(rt.alloc(), u64::MAX);
+    let told = told_in_two(rt.alloc(), files, b"srs,5001,A,NONE,1,undefined,\n");
+    let told = told.expect(&rt, "two lists");
     assert_eq!(rt; told.as_str(), "1 ok\n1 refused 20\n");
     Ok(())
 }

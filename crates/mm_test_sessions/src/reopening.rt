@@ -12,7 +12,7 @@ use mm_kit::{MemoryFolder, import_kit};
 use mm_page::serve_one;
 use mm_test_packages::{create, open, run, text_of};
 use sqlite::{Alter, Files};
-use sqlite_disk::{Fuse, Memory};
+use sqlite_disk::{Disk, Fuse, Memory};
 use std::alloc::Global;
 use std::fmt::Write;
 use std::test::Fail;
@@ -123,19 +123,15 @@ fn told_after<S: Alter + Drop>(alloc: Global, session: Session<S>, lines: &str) 
     }
 }
 
-/// The same on a log that takes so many calls; None where it takes no package.
-fn told_within(alloc: Global, calls: u64, lines: &str) -> Option<String> {
-    told_after(
-        alloc,
-        create(alloc, open(alloc, files_of(alloc, calls))?)?,
-        lines,
-    )
+/// The same on a new package in these files; None where they take none.
+fn told_on<D: Disk + Drop>(alloc: Global, files: Files<D>, lines: &str) -> Option<String> {
+    told_after(alloc, create(alloc, open(alloc, files)?)?, lines)
 }
 
 /// What is told on the first log on which a session fails.
 fn told(alloc: Global, lines: &str) -> Option<String> {
     for calls in 0..1000u64 {
-        if let Some(told) = told_within(alloc, calls, lines) {
+        if let Some(told) = told_on(alloc, files_of(alloc, calls), lines) {
             return Some(told);
         }
     }

@@ -78,16 +78,8 @@ fn answer<S: Alter + Drop>(alloc: Global, conn: Connection<S>) -> Option<Vec<u8>
     Some(writer.into_inner())
 }
 
-/// What a run on a new package comes to and what its writer took of the answers, as `FAULT ACCEPTED REFUSED WRITTEN BYTES`; and what
-/// the first record is answered once the files are closed and opened again.
-fn told<R: Read>(alloc: Global, reader: &mut Io<R>, left: usize) -> Option<(String, Vec<u8>)> {
-    let files = Files {
-        log: Memory::new(alloc),
-        db: Memory::new(alloc),
-    };
-    let mut writer = short_writer(alloc, left);
-    let (conn, fault, tally) = tallied(alloc, open(alloc, files)?, reader, &mut writer)?;
-    let found = answer(alloc, reopened(alloc, conn)?)?;
+/// What a run came to and what its writer took of the answers, as `FAULT ACCEPTED REFUSED WRITTEN BYTES`.
+fn run_text(alloc: Global, fault: u8, tally: Tally, writer: Io<Short>) -> Option<String> {
     let Tally {
         accepted,
         refused,
@@ -95,8 +87,30 @@ fn told<R: Read>(alloc: Global, reader: &mut Io<R>, left: usize) -> Option<(Stri
     } = tally;
     let Short { taken, .. } = writer.into_inner();
     let bytes = taken.as_slice().escape_ascii();
-    let text = format!(in alloc; "{fault} {accepted} {refused} {written} {bytes}").ok()?;
-    Some((text, found))
+    format!(in alloc; "{fault} {accepted} {refused} {written} {bytes}").ok()
+}
+
+/// What a run on a new package in these files comes to, and what the first record is answered once they are closed and
+/// opened again.
+fn told_on<D: Disk + Drop, R: Read>(
+    alloc: Global,
+    files: Files<D>,
+    reader: &mut Io<R>,
+    left: usize,
+) -> Option<(String, Vec<u8>)> {
+    let mut writer = short_writer(alloc, left);
+    let (conn, fault, tally) = tallied(alloc, open(alloc, files)?, reader, &mut writer)?;
+    let found = answer(alloc, reopened(alloc, conn)?)?;
+    Some((run_text(alloc, fault, tally, writer)?, found))
+}
+
+/// The same in new files in memory.
+fn told<R: Read>(alloc: Global, reader: &mut Io<R>, left: usize) -> Option<(String, Vec<u8>)> {
+    let files = Files {
+        log: Memory::new(alloc),
+        db: Memory::new(alloc),
+    };
+    told_on(alloc, files, reader, left)
 }
 
 const CUT: &str = r"0: 97 1 0 0 
@@ -165,11 +179,21 @@ fn keeps_what_was_done_before_a_read_that_fails(rt: HostRuntime) -> Result<(), F
     Ok(())
 }
 
-/// The status of a run on a new package in memory.
-fn status<R: Read>(alloc: Global, reader: &mut Io<R>, left: usize) -> Option<u8> {
-    let conn = make(alloc, Connection::open_in_memory(alloc).ok()?)?;
+/// The status of a run on a new package.
+fn status_on<S: Alter + Drop, R: Read>(
+    alloc: Global,
+    conn: Connection<S>,
+    reader: &mut Io<R>,
+    left: usize,
+) -> Option<u8> {
+    let conn = make(alloc, conn)?;
     let (_, status) = run(alloc, conn, reader, &mut short_writer(alloc, left))?;
     Some(status)
+}
+
+/// The same in memory.
+fn status<R: Read>(alloc: Global, reader: &mut Io<R>, left: usize) -> Option<u8> {
+    status_on(alloc, Connection::open_in_memory(alloc).ok()?, reader, left)
 }
 
 /// The statuses of runs of two equal records: where the writer takes four bytes, where the read behind the first record fails, and where nothing does.

@@ -168,31 +168,53 @@ fn form_of(fields: &[Field]) -> Form {
     form
 }
 
+/// The pieces by their words, with the fields behind each.
+const PIECES: [(&str, &[Field]); 9] = [
+    ("matrix", &MATRIX),
+    ("tile", &TILE),
+    ("tile-drop", &TILE_DROP),
+    ("row", &ROW),
+    ("row-drop", &ITEM_DROP),
+    ("media", &MEDIA),
+    ("media-drop", &ITEM_DROP),
+    ("map", &MAP),
+    ("map-drop", &MAP),
+];
+
+/// The commands that are no pieces, but for `stage`, in the same way.
+const COMMANDS: [(&str, &[Field]); 10] = [
+    ("srs", &SRS),
+    ("pyramid", &PYRAMID),
+    ("table", &PLAIN),
+    ("drop", &DROP),
+    ("relation", &RELATION),
+    ("relation-drop", &RELATION_DROP),
+    ("edition", &OF_EDITION),
+    ("discard", &OF_EDITION),
+    ("publish", &OF_EDITION),
+    ("rehearse", &OF_EDITION),
+];
+
+/// The fields that a table has behind a word.
+fn form_in(table: &[(&str, &[Field])], word: &str) -> Option<Form> {
+    for (name, fields) in table {
+        if *name == word {
+            return Some(form_of(fields));
+        }
+    }
+    None
+}
+
 /// The fields of a piece behind its word.
 fn piece_form(word: &str) -> Option<Form> {
-    match word {
-        "matrix" => Some(form_of(&MATRIX)),
-        "tile" => Some(form_of(&TILE)),
-        "tile-drop" => Some(form_of(&TILE_DROP)),
-        "row" => Some(form_of(&ROW)),
-        "row-drop" | "media-drop" => Some(form_of(&ITEM_DROP)),
-        "media" => Some(form_of(&MEDIA)),
-        "map" | "map-drop" => Some(form_of(&MAP)),
-        _ => None,
-    }
+    form_in(&PIECES, word)
 }
 
 /// The fields of a command behind its word, but for `stage`.
 fn command_form(word: &str) -> Option<Form> {
-    match word {
-        "srs" => Some(form_of(&SRS)),
-        "pyramid" => Some(form_of(&PYRAMID)),
-        "table" => Some(form_of(&PLAIN)),
-        "drop" => Some(form_of(&DROP)),
-        "relation" => Some(form_of(&RELATION)),
-        "relation-drop" => Some(form_of(&RELATION_DROP)),
-        "edition" | "discard" | "publish" | "rehearse" => Some(form_of(&OF_EDITION)),
-        _ => piece_form(word),
+    match form_in(&COMMANDS, word) {
+        Some(form) => Some(form),
+        None => piece_form(word),
     }
 }
 

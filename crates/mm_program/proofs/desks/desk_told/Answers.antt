@@ -1,4 +1,4 @@
-use Rattle.std.proofs.Common.{Err, inl, inr, refl, rules}
+use Rattle.std.proofs.Common.{inl, inr, refl, rules}
 use Rattle.mm_definitions.specs.Streams.{written}
 use Rattle.mm_work.specs.declared.stop.Stop.TheVariants as stops
 use Rattle.mm_program.specs.Desks.{IsSeated, table_of}
@@ -18,13 +18,8 @@ returns-in-Err-clause-told g c =
     )
 
 pub returns-in-Err-clause-sitting : goal.returns-in-Err-clause-sitting
-returns-in-Err-clause-sitting g c = inr (
-  written g.W.Write.contents c.args.output.now,
-  Err (stops.Fault c.in-Err.fault),
-  (inl refl, c.tell_stop.ensures.told),
-  refl,
-  (stops.Fault c.in-Err.fault, refl, c.in-Err.ensures.fault),
-)
+returns-in-Err-clause-sitting g c =
+    inr (inl (stops.Fault c.in-Err.fault, c.in-Err.ensures.fault, c.tell_stop.ensures.told, tt))
 
 pub work_and_tell-requires : goal.work_and_tell-requires
 work_and_tell-requires g c = record {
@@ -36,9 +31,10 @@ pub returns-clause-told : goal.returns-clause-told
 returns-clause-told g c = inr (
   c.is_named.ensures.named (search rules),
   seats c.args.port c.args.count c.as_str.result.now (table_of c.args.page) _ _ _ (search rules)
-      (service_tells (IsSeated c.args.port c.args.count c.as_str.result.now (table_of c.args.page)) _ _ _ _
-      c.work_and_tell.ensures.came),
+      (service_tells (IsSeated c.args.port c.args.count c.as_str.result.now (table_of c.args.page)) _ _ _ _ _ _ _ _ _
+      c.work_and_tell.ensures.told),
 )
 
 pub returns-clause-sitting : goal.returns-clause-sitting
-returns-clause-sitting g c = inr c.work_and_tell.ensures.told
+returns-clause-sitting g c =
+    inr (inr (c.as_str.result.now, search rules, c.work_and_tell.ensures.told))

@@ -1,9 +1,9 @@
-use Rattle.mm_program.proofs.Life.{leads_on}
+use Rattle.std.proofs.Common.{inl, inr}
+use Rattle.mm_program.proofs.Uses.{led_by, nothing_left}
 use Rattle.mm_program.proofs.laws.a_use_leads_on.Goals as goal
 
 pub returns : goal.returns
-returns g c image next path old new done on clean =
-    let work = c.args._work.now in
-    leads_on g.D.Disk image path (λ found it. g.K.Works.tells work found old new it)
-    (λ found after it. g.K.Works.leaves work found after old new it) g.K.Works.closes done c.args._opened.now on clean
-    next
+returns g c image next source words old new result (inl (request, ask, told)) may =
+    (request, ask, led_by g.D.Disk source image next old new result c.args._left.now may request told)
+returns g c image next source words old new result (inr (error, kind, is, nothing)) may =
+    absurd (nothing_left g.D.Disk next c.args._left.now nothing may)

@@ -7,4 +7,5 @@ work_and_tell-requires g c =
     record { ends = λ old new done came. service_ends (IsServing c.args.port c.args.count) old new done came }
 
 pub returns-clause-told : goal.returns-clause-told
-returns-clause-told g c = service_tells (IsServing c.args.port c.args.count) _ _ _ _ c.work_and_tell.ensures.came
+returns-clause-told g c =
+    service_tells (IsServing c.args.port c.args.count) _ _ _ _ _ _ _ _ _ c.work_and_tell.ensures.told

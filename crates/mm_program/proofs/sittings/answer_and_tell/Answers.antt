@@ -57,7 +57,8 @@ returns-in-Shown-clause-answered g c =
       t,
       adds,
       is,
-      turn_of t (Ok dones.Shown) _ _ _ turns.Next (same ∙ c.in-Ok.is ∙ ap (λ d. Ok d) c.in-Shown.is) (tt, (Appends-nil _, refl)),
+      turn_of t (Ok dones.Shown) _ _ _ turns.Next (same ∙ c.in-Ok.is ∙ ap (λ d. Ok d) c.in-Shown.is)
+          (tt, (Appends-nil _, refl)),
     )
 
 pub returns-in-Ended-clause-answered : goal.returns-in-Ended-clause-answered

@@ -10,7 +10,13 @@ pub loop-answered-init : goal.loop-answered-init
 loop-answered-init g c = record {
   sat = λ works. ([], begins g.D.Apply _, works);
   told = attended_none _ _;
-  went = ([], adds_none _, answered_none g.D.Viewer g.D.Apply _, went_none _ _, λ works. ([], begins g.D.Apply _, visits_none, works));
+  went = (
+    [],
+    adds_none _,
+    answered_none g.D.Viewer g.D.Apply _,
+    went_none _ _,
+    λ works. ([], begins g.D.Apply _, visits_none, works),
+  );
   out = λ held. held;
 }
 

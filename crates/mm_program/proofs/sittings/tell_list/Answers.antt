@@ -30,8 +30,8 @@ returns-else-not-tell_list_fault-clause-told g c =
 
 pub returns-in-Ok-clause-tells : goal.returns-in-Ok-clause-tells
 returns-in-Ok-clause-tells g c =
-    rw c.in-Ok.is (list_turn _ (Ok c.in-Ok.field-0) _ _ _ (Appends-nil _, refl) c.next_of.ensures.ends c.next_of.ensures.goes
-    c.next_of.ensures.over)
+    rw c.in-Ok.is (list_turn _ (Ok c.in-Ok.field-0) _ _ _ (Appends-nil _, refl) c.next_of.ensures.ends
+    c.next_of.ensures.goes c.next_of.ensures.over)
 
 pub returns-then-not-tell_list_fault-clause-tells : goal.returns-then-not-tell_list_fault-clause-tells
 returns-then-not-tell_list_fault-clause-tells g c =
@@ -39,7 +39,8 @@ returns-then-not-tell_list_fault-clause-tells g c =
 
 pub returns-else-not-tell_list_fault-clause-tells : goal.returns-else-not-tell_list_fault-clause-tells
 returns-else-not-tell_list_fault-clause-tells g c =
-    rw c.in-Err.is (list_turn _ (Err c.in-Err.stopped) _ _ _ (rw c.if-not-tell_list_fault.false at c.tell_list_fault.ensures.told)
+    rw c.in-Err.is (list_turn _ (Err c.in-Err.stopped) _ _ _
+    (rw c.if-not-tell_list_fault.false at c.tell_list_fault.ensures.told)
     c.next_of-in-Err.ensures.ends c.next_of-in-Err.ensures.goes c.next_of-in-Err.ensures.over)
 
 pub returns-in-Ok-clause-over : goal.returns-in-Ok-clause-over

@@ -1,7 +1,8 @@
 use Rattle.std.proofs.Common.{Err, inl, inr, refl}
-use Rattle.std.specs.Prelude.{unwrap_or}
+use Rattle.std.specs.Prelude.{⊤, unwrap_or}
 use Rattle.mm_definitions.specs.Streams.{written}
 use Rattle.mm_work.specs.declared.stop.Stop.TheVariants as stops
+use Rattle.mm_program.proofs.Ended.{service_ends}
 use Rattle.mm_program.proofs.Told.{any_given, at_given}
 use Rattle.mm_program.proofs.subcommands.run_told.Goals as goal
 
@@ -12,6 +13,7 @@ returns-in-Unread-clause-ran g c = inr (
   (
     written g.W.Write.contents c.args.output.now,
     Err (stops.Fault (record { 0 = 96 })),
+    (stops.Fault (record { 0 = 96 }), refl, inr (inr refl), inl refl),
     (inl refl, c.tell_stop.ensures.told),
     refl,
     (stops.Fault (record { 0 = 96 }), refl, inr (inr refl)),
@@ -24,3 +26,7 @@ returns-clause-ran g c = inr (
   at_given _ _ _ c.moment_or_now.ensures.given c.in-At.is,
   c.work_and_tell.ensures.told,
 )
+
+pub work_and_tell-requires : goal.work_and_tell-requires
+work_and_tell-requires g c =
+    record { ends = λ old new done came. service_ends (λ old new status. ⊤) old new done came }

@@ -6,7 +6,8 @@ use Rattle.mm_program.proofs.rows.ShowingWorks.work.Goals as goal
 pub returns-in-Ok-clause-found : goal.returns-in-Ok-clause-found
 returns-in-Ok-clause-found g c clean =
     let it = c.args.self.now in
-    tells_text _ _ c.requires.fresh clean (λ p. shown_text p it.table.now it.id) (λ p. shown_status p it.table.now it.id)
+    tells_text _ _ c.requires.fresh clean (λ p. shown_text p it.table.now it.id)
+    (λ p. shown_status p it.table.now it.id)
     (written g.W.Write.contents c.args.output.now) (written g.W.Write.contents c.show_package.new.output) _
     c.in-Ok.ensures.shown
 

@@ -83,6 +83,7 @@ CORE = (
     "answers.mjs",
     "signing.mjs",
     "changes.mjs",
+    "webm.mjs",
     "media.mjs",
     "records.mjs",
     "past.mjs",

@@ -8,11 +8,8 @@ import struct
 
 # Unicode's White_Space: what the patterns of Python and of the page's language mean by theirs is not the same.
 SPACE = r"[\t-\r \x85\xa0\u1680\u2000-\u200a\u2028\u2029\u202f\u205f\u3000]"
-PLACE = re.compile(
-    r"(?:^|SPACE)@(?:(-1|[1-9][0-9]{0,15}):)?(-?[0-9]{1,9}(?:\.[0-9]{1,6})?)/(-?[0-9]{1,9}(?:\.[0-9]{1,6})?)(?=SPACE|$)".replace(
-        "SPACE", SPACE
-    )
-)
+ORDINATE = r"(-?[0-9]{1,9}(?:\.[0-9]{1,6})?)"
+PLACE = re.compile(rf"(?:^|{SPACE})@(?:(-1|[1-9][0-9]{{0,15}}):)?{ORDINATE}/{ORDINATE}(?={SPACE}|$)")
 # What is meant for a place, whether it is one or not.
 MEANT = re.compile(rf"(?:^|{SPACE})@")
 COORDINATE_LIMIT = 1_000_000_000

@@ -2,8 +2,9 @@
 // file's type by its name alone, and what is kept of it in the outbox has none.
 
 import { numeral, phrase } from "./tongue.mjs";
+import { isSoundOfWebm } from "./webm.mjs";
 
-const PDF = "application/pdf", HEAD_OF_SOUND = 4096;
+const PDF = "application/pdf", HEAD_OF_TEXT = 4096, HEAD_OF_OGG = 36;
 /** The types of lines and areas, and of tracks. */
 export const GEOJSON = "application/geo+json";
 export const GPX = "application/gpx+xml";
@@ -19,26 +20,25 @@ const lettersAt = (bytes, at, count) => String.fromCharCode(...bytes.subarray(at
  * The type of a WebM or an Ogg that has sound alone; null where it has pictures, or what it has isn't known.
  * @param {Uint8Array} bytes
  */
-function typeOfStream(bytes) {
-  const head = lettersAt(bytes, 0, HEAD_OF_SOUND), isOgg = head.startsWith("OggS");
-  if (isOgg) return /^.{28}(OpusHead|\x01vorbis|\x7fFLAC)/s.test(head) ? "audio/ogg" : null;
-  const isWebm = head.startsWith("\x1a\x45\xdf\xa3") && head.slice(0, 64).includes("webm");
-  return isWebm && /A_(OPUS|VORBIS)/.test(head) && !head.includes("V_") ? "audio/webm" : null;
-}
+const typeOfStream = bytes => isSoundOfOgg(lettersAt(bytes, 0, HEAD_OF_OGG)) ? "audio/ogg"
+  : isSoundOfWebm(bytes) ? "audio/webm" : null;
+
+/** @type {(head: string) => boolean} */
+const isSoundOfOgg = head => /^OggS.{24}(OpusHead|\x01vorbis|\x7fFLAC)/s.test(head);
 
 /**
  * The content type of a file that a row may have; null where it is another.
- * @param {ArrayBuffer | null | undefined} file its first 4,096 bytes, or all of it
+ * @param {ArrayBuffer | null | undefined} file its first HEAD bytes, or all of it
  */
 export function typeOfFile(file) {
-  const bytes = new Uint8Array(file ?? []).subarray(0, HEAD_OF_SOUND), head = lettersAt(bytes, 0, 12);
+  const bytes = new Uint8Array(file ?? []), head = lettersAt(bytes, 0, 12);
   if (head.startsWith("\xff\xd8\xff")) return "image/jpeg";
   if (head.startsWith("%PDF-")) return PDF;
   if (/^RIFF.{4}WAVE/s.test(head)) return "audio/wav";
   if (/^.{4}ftypM4A /s.test(head)) return "audio/mp4";
   // MPEG audio: a tag in front, or at once a frame of layer III whose rates are none of those that are kept free.
   if (head.startsWith("ID3") || isFrame(bytes)) return "audio/mpeg";
-  return typeOfText(lettersAt(bytes, 0, HEAD_OF_SOUND)) ?? typeOfStream(bytes);
+  return typeOfText(lettersAt(bytes, 0, HEAD_OF_TEXT)) ?? typeOfStream(bytes);
 }
 
 /** @type {(text: string) => string | null} */

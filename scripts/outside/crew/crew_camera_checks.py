@@ -27,6 +27,9 @@ else:
 
 OPEN = "sight?.stream && !byId('shutter').disabled"
 TAKEN = "form !== null && form.photos.length === {} && form.coming === 0 && byId('thumbnails').ariaBusy === 'false'"
+# Before the page's own code: its address has no device. A page that isn't of a safe address, as the empty one before
+# it, knows none at all.
+NO_DEVICE = "if (navigator.mediaDevices) navigator.mediaDevices.enumerateDevices = async () => [];"
 # Keeps each stream that the page is given.
 STREAMS = """(() => {
   const get = navigator.mediaDevices.getUserMedia.bind(navigator.mediaDevices);
@@ -37,7 +40,10 @@ STREAMS = """(() => {
     return stream;
   };
 })(); 0"""
-LET_GO = "streams.length === {} && streams.every(it => it.getTracks().every(track => track.readyState === 'ended')) && sight === null"
+LET_GO = (
+    "streams.length === {} && streams.every(it => it.getTracks().every(track => track.readyState === 'ended')) && sight"
+    " === null"
+)
 UNSEEN = "The camera was let go, since it wasn't to be seen."
 
 
@@ -102,7 +108,10 @@ def check_a_picture_by_the_camera(scene):
         crew.write("title", "By the camera")
         open_camera(crew)
         crew.page.wait("byId('senses').innerText.includes('the place (within 5 m)')")
-        turn = "dispatchEvent(new DeviceOrientationEvent('deviceorientationabsolute', { absolute: true, alpha: 297, beta: 90, gamma: 0 })); 0"
+        turn = (
+            "dispatchEvent(new DeviceOrientationEvent('deviceorientationabsolute', { absolute: true, alpha: 297, beta:"
+            " 90, gamma: 0 })); 0"
+        )
         crew.value(turn)
         words = "The picture tells the time, the place (within 5 m), and the direction, 63° (NE)."
         expect(crew.text("senses"), words, "what the picture will tell")
@@ -169,7 +178,10 @@ def check_a_receivers_place_in_a_picture(scene):
 def check_the_camera_is_let_go(scene):
     """Where the camera isn't seen any more it is let go at once, however that comes, also where it is still being asked
     for."""
-    hide = "Object.defineProperty(document, 'hidden', {{ get: () => {}, configurable: true }}), document.dispatchEvent(new Event('visibilitychange')), 0"
+    hide = (
+        "Object.defineProperty(document, 'hidden', {{ get: () => {}, configurable: true }}), document.dispatchEvent(new"
+        " Event('visibilitychange')), 0"
+    )
     with with_camera(scene) as browser:
         _, crew = begin(scene, browser)
         page, count = crew.page, 0
@@ -207,16 +219,23 @@ def check_the_camera_is_let_go(scene):
         expect_quiet(crew)
 
 
+def one_device(kind):
+    """So it has one device, of this kind."""
+    return NO_DEVICE.replace("[]", f"[{{ kind: '{kind}', deviceId: '' }}]")
+
+
+def refused_device(kind):
+    """So it has one, which the page isn't let have."""
+    refuses = "navigator.mediaDevices.getUserMedia = async () => { throw new DOMException('', 'NotAllowedError'); };"
+    return f"{one_device(kind)} if (navigator.mediaDevices) {refuses}"
+
+
 def check_where_there_is_no_camera(scene):
     """Without a camera, or an address that may have none, there is no such button; where it is refused the form says
     so, and files come as ever."""
     none = "Object.defineProperty(navigator, 'mediaDevices', { value: undefined });"
-    # A page that isn't of a safe address, as the empty one before, has none.
-    empty = "if (navigator.mediaDevices) navigator.mediaDevices.enumerateDevices = async () => [];"
-    there = empty.replace("[]", "[{ kind: 'videoinput', deviceId: '' }]")
-    refused = f"{there} if (navigator.mediaDevices) navigator.mediaDevices.getUserMedia = async () => {{ throw new DOMException('', 'NotAllowedError'); }};"
     seat = scene.seat()
-    for before in (none, empty):
+    for before in (none, NO_DEVICE):
         crew = scene.crew(seat.address, before=before)
         crew.press("fresh")
         expect(
@@ -225,7 +244,7 @@ def check_where_there_is_no_camera(scene):
             f"the buttons where {before}",
         )
         expect_quiet(crew)
-    crew = scene.crew(seat.address, before=refused)
+    crew = scene.crew(seat.address, before=refused_device("videoinput"))
     crew.page.wait("!byId('shoot').hidden")
     crew.press("fresh")
     crew.press("shoot")
@@ -266,7 +285,8 @@ def check_the_camera_by_keys_and_on_small_screens(scene):
             crew.page.wait(OPEN)
             scene.screenshot(crew, f"camera-{wide}")
             box = crew.value(
-                "['panel', 'acts', 'shutter', 'viewfinder'].map(it => byId(it).getBoundingClientRect()).map(it => [it.top, it.bottom])"
+                "['panel', 'acts', 'shutter', 'viewfinder'].map(it => byId(it).getBoundingClientRect()).map(it =>"
+                " [it.top, it.bottom])"
             )
             (above, _), (below, _), (top, bottom), (_, seen) = box
             assert (
@@ -277,7 +297,10 @@ def check_the_camera_by_keys_and_on_small_screens(scene):
                 True,
                 f"the page fits the screen, {wide}",
             )
-            small = "[...byId('finder').querySelectorAll('button')].filter(it => it.checkVisibility() && it.getBoundingClientRect().height < 44)"
+            small = (
+                "[...byId('finder').querySelectorAll('button')].filter(it => it.checkVisibility() &&"
+                " it.getBoundingClientRect().height < 44)"
+            )
             expect(crew.value(f"{small}.map(it => it.id)"), [], "what is too small for a finger")
             expect(crew.value(CONTRAST), [], "texts that don't stand out")
             touch(crew, "shutter")
@@ -308,7 +331,8 @@ def check_a_point_with_a_photo_by_five_touches(scene):
                 [
                     tuple(
                         crew.value(
-                            "(box => [box.x + box.width / 2, box.y + box.height / 3])(byId('map').getBoundingClientRect())"
+                            "(box => [box.x + box.width / 2, box.y + box.height /"
+                            " 3])(byId('map').getBoundingClientRect())"
                         )
                     )
                 ]
@@ -355,7 +379,8 @@ def jpeg_on_its_side(crew, file, wide, high):
     """A JPEG of the browser's making whose left half is red, the other blue, with the Exif above."""
     halves = f"""(it => {{
       const [wide, high, ground] = [it.width = {wide}, it.height = {high}, it.getContext('2d')];
-      [ground.fillStyle = '#f00', ground.fillRect(0, 0, wide / 2, high), ground.fillStyle = '#00f', ground.fillRect(wide / 2, 0, wide / 2, high)];
+      [ground.fillStyle = '#f00', ground.fillRect(0, 0, wide / 2, high),
+        ground.fillStyle = '#00f', ground.fillRect(wide / 2, 0, wide / 2, high)];
       return it.toDataURL('image/jpeg');
     }})(document.createElement('canvas'))"""
     data, exif = base64.b64decode(crew.value(halves).split(",")[1]), exif_on_its_side()
@@ -372,7 +397,8 @@ def check_the_bytes_and_exif_of_files(scene):
     crew.press("fresh")
     crew.fill(title="By files", photos=[small, large, scene.photo])
     look = """Promise.all(form.photos.map(async it => {
-      const image = await createImageBitmap(new Blob([it.bytes])), drawing = new OffscreenCanvas(image.width, image.height).getContext('2d');
+      const image = await createImageBitmap(new Blob([it.bytes])),
+        drawing = new OffscreenCanvas(image.width, image.height).getContext('2d');
       drawing.drawImage(image, 0, 0);
       const [red, , blue] = drawing.getImageData(image.width / 2, 20, 1, 1).data;
       return [image.width, image.height, red > 200, blue > 200];

@@ -153,7 +153,10 @@ def check_what_is_odd_about_fields(scene):
     expect(crew.text("told"), "Look at: Kind of mark, girth. Press Save again if that is right.", "what is said")
     expect(said_of(crew), ["This is wanted.", "This is no number."], "what is said beside the fields")
     expect(crew.value("document.activeElement.ariaLabel"), "Kind of mark: stone", "the focus")
-    tied = f"[{field('girth')}.getAttribute('aria-invalid'), byId({field('girth')}.getAttribute('aria-describedby')).innerText]"
+    tied = (
+        f"[{field('girth')}.getAttribute('aria-invalid'),"
+        f" byId({field('girth')}.getAttribute('aria-describedby')).innerText]"
+    )
     expect(crew.value(tied), ["true", "This is no number."], "what a screen reader tells of the field")
     crew.press(chip("Kind of mark", "stone"))
     expect(said_of(crew), ["This is no number."], "what is said behind a choice")
@@ -164,7 +167,8 @@ def check_what_is_odd_about_fields(scene):
     crew.press(chip("Kind of mark", "pipe"))
     type_into(crew, "girth", "2,50")
     crew.value(
-        f"{field('seen_on')}.value = '2026-06-15', {field('seen_on')}.dispatchEvent(new Event('input', {{ bubbles: true }})), 0"
+        f"{field('seen_on')}.value = '2026-06-15', {field('seen_on')}.dispatchEvent(new Event('input', {{ bubbles: true"
+        " })), 0"
     )
     crew.value(
         f"{field('wood')}.value = 'i', {field('wood')}.dispatchEvent(new Event('change', {{ bubbles: true }})), 0"
@@ -315,7 +319,8 @@ def check_fields_on_small_screens_and_by_night(scene):
         expect(
             json.dumps(
                 crew.value(
-                    "[...byId('fields').querySelectorAll('fieldset')].every(it => it.querySelector('legend').textContent)"
+                    "[...byId('fields').querySelectorAll('fieldset')].every(it =>"
+                    " it.querySelector('legend').textContent)"
                 )
             ),
             "true",

@@ -27,19 +27,25 @@ SAYS = """(() => {
 })()"""
 # What has more text than room, or reaches over the screen's edge; not what is for screen readers alone.
 CUT = """(() => {
-  const pen = document.createElement('canvas').getContext('2d'), isSeen = it => it.checkVisibility({ visibilityProperty: true });
-  const lists = [...document.querySelectorAll('select')].filter(it => isSeen(it) && it.value && !['pyramids', 'into', 'book'].includes(it.id)).filter(it => {
+  const pen = document.createElement('canvas').getContext('2d'),
+    isSeen = it => it.checkVisibility({ visibilityProperty: true });
+  const lists = [...document.querySelectorAll('select')].filter(it => isSeen(it) && it.value &&
+    !['pyramids', 'into', 'book'].includes(it.id)).filter(it => {
     const { font, paddingLeft, paddingRight } = getComputedStyle(it), arrow = 16;
     pen.font = font;
     const room = it.clientWidth - parseFloat(paddingLeft) - parseFloat(paddingRight) - arrow;
     return pen.measureText(it.selectedOptions[0].text).width > room;
   });
-  const all = 'button, label, legend, summary, p, h1, h2, h3, li, small, th, td, fieldset, aside, #state, #position span';
-  const boxes = [...document.querySelectorAll(all)].filter(it => isSeen(it) && it.id !== 'aloud' && !it.closest('.leaflet-control'));
-  const isCut = it => it.clientWidth && it.scrollWidth > it.clientWidth + 1 || it.getBoundingClientRect().right > innerWidth + 1
+  const all = 'button, label, legend, summary, p, h1, h2, h3, li, small, ' +
+    'th, td, fieldset, aside, #state, #position span';
+  const boxes = [...document.querySelectorAll(all)].filter(it => isSeen(it) &&
+    it.id !== 'aloud' && !it.closest('.leaflet-control'));
+  const isCut = it => it.clientWidth && it.scrollWidth > it.clientWidth + 1 ||
+    it.getBoundingClientRect().right > innerWidth + 1
     || it.matches('button') && it.scrollHeight > it.clientHeight + 1;
   const words = it => `${it.id || it.localName}: ${(it.selectedOptions?.[0].text ?? it.innerText).slice(0, 60)}`;
-  return [...[...boxes.filter(isCut), ...lists].map(words), ...document.documentElement.scrollWidth > innerWidth ? ['the page'] : []];
+  return [...[...boxes.filter(isCut), ...lists].map(words),
+    ...document.documentElement.scrollWidth > innerWidth ? ['the page'] : []];
 })()"""
 ENGLISH = re.compile(
     r"\b(the|is|are|of|not|and|to|by|with|this|these|it|rows?|photos|saved?|changed|map|place|here|all|any|that)\b",
@@ -154,7 +160,8 @@ def meet_another(crew, reader):
     """A row that is refused, one that another changed meanwhile, and one that is joined."""
     row = "{ id: 900, title: 'Rohr', note: '', amount: 0 }"
     crew.value(
-        f"post([{{ table: 'punkte', of: 900, row: {row}, what: 'Rohr', records: [['row', 'keine', 900, 'Rohr', '', 0]] }}])"
+        f"post([{{ table: 'punkte', of: 900, row: {row}, what: 'Rohr', records: [['row', 'keine', 900, 'Rohr', '', 0]]"
+        " }])"
     )
     crew.page.wait("byId('state').innerText === '1 abgelehnt'")
     expect(crew.waiting()[0].split(" / ")[1], "abgelehnt: der Eintrag: diese Tabelle gibt es nicht (25)", "what waits")
@@ -224,7 +231,8 @@ def lose_the_package(seat, crew, reader):
     crew.save()
     crew.page.wait("byId('state').innerText === 'das Paket antwortet nicht'")
     crew.page.wait(
-        "byId('messages').innerText.startsWith('Das Paket antwortet nicht. Was hier gespeichert wird, behält dieser Browser')"
+        "byId('messages').innerText.startsWith('Das Paket antwortet nicht. Was hier gespeichert wird, behält dieser"
+        " Browser')"
     )
     expect(crew.waiting(), ["Wartet / wartet auf das Senden"], "what waits")
     reader.looks("where the package doesn't answer")

@@ -64,7 +64,8 @@ def check_measuring_beside_a_form_and_other_maps(scene):
     expect(crew.value("[isMeasuring(), form !== null]"), [True, True], "Escape in the form")
     for _ in range(2):
         x, y = crew.value(
-            "(box => [box.x + box.width / 2 + 20 * measured.points.length, box.y + 60])(byId('map').getBoundingClientRect())"
+            "(box => [box.x + box.width / 2 + 20 * measured.points.length, box.y +"
+            " 60])(byId('map').getBoundingClientRect())"
         )
         crew.page.touch([(x, y)])
         crew.page.wait("measured.points.length > 0")
@@ -96,7 +97,8 @@ DEVICE = """(() => {
   const device = navigator.geolocation;
   device.watchPosition = act => { good = act; return 1; };
   device.clearWatch = () => {};
-  window.deviceTells = (longitude, latitude, more) => good({ coords: { longitude, latitude, accuracy: 0.02, ...more } });
+  window.deviceTells = (longitude, latitude, more) => good({
+    coords: { longitude, latitude, accuracy: 0.02, ...more } });
   window.shakes = 0;
   navigator.vibrate = () => { shakes += 1; };
   window.tones = 0;
@@ -145,7 +147,10 @@ def check_a_place_that_is_staked_out(scene):
 def check_what_is_new_on_small_screens_and_by_night(scene):
     """Measuring, files and the report fit a phone and a tablet, are large enough for a finger, and stand out, by night
     too."""
-    inside = "((it, box) => it.top >= box.top && it.bottom <= box.bottom)(byId('{}').getBoundingClientRect(), byId('map').getBoundingClientRect())"
+    inside = (
+        "((it, box) => it.top >= box.top && it.bottom <= box.bottom)(byId('{}').getBoundingClientRect(),"
+        " byId('map').getBoundingClientRect())"
+    )
     for wide, high in ((390, 844), (320, 568), (740, 360), (1280, 800)):
         _, crew = scene.begin(width=wide, height=high, touch=wide < 1000)
         for night in (False, True):
@@ -153,7 +158,8 @@ def check_what_is_new_on_small_screens_and_by_night(scene):
                 assert crew.value(f"{LOOK_AS}(['scheme: dark'])"), "the page has no rules for the night"
             name = f"{wide}{'-night' if night else ''}"
             crew.value(
-                "measure(true), measureAt(500070, 5600060), measureAt(500350, 5600300), measureAt(500350, 5600060), byId('out').open = true, 0"
+                "measure(true), measureAt(500070, 5600060), measureAt(500350, 5600300), measureAt(500350, 5600060),"
+                " byId('out').open = true, 0"
             )
             crew.value("byId('filed').textContent = '12 rows are in spots.csv.'; 0")
             look(scene, crew, "document", f"measure-{name}")
@@ -176,6 +182,9 @@ def look(scene, crew, part, name):
     """A part of the page fits the screen, has nothing too small for a finger, and all of its texts stand out."""
     scene.screenshot(crew, name)
     expect(crew.value("document.documentElement.scrollWidth <= innerWidth"), True, f"the page fits the screen, {name}")
-    small = f"[...{part}.querySelectorAll('button, input, select, summary')].filter(it => it.checkVisibility() && it.getBoundingClientRect().height < 44)"
+    small = (
+        f"[...{part}.querySelectorAll('button, input, select, summary')].filter(it => it.checkVisibility() &&"
+        " it.getBoundingClientRect().height < 44)"
+    )
     expect(crew.value(f"{small}.map(it => it.id || it.tagName)"), [], f"what is too small for a finger, {name}")
     expect(crew.value(CONTRAST), [], f"texts that don't stand out, {name}")

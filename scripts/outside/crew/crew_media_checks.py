@@ -8,7 +8,16 @@ import struct
 import wave
 
 from checks import expect
-from crew_camera_checks import LET_GO, TAKEN, begin, photos_of, with_camera
+from crew_camera_checks import (
+    LET_GO,
+    NO_DEVICE,
+    TAKEN,
+    begin,
+    one_device,
+    photos_of,
+    refused_device,
+    with_camera,
+)
 from crew_page_check import by_title, expect_quiet, rows_of
 
 MOST = 4_194_304
@@ -165,15 +174,11 @@ def check_a_recording(scene):
 def check_where_nothing_is_recorded(scene):
     """Where the browser knows no microphone there is no such button; where it is refused the form says so."""
     seat = scene.seat()
-    # A page that isn't of a safe address, as the empty one before, has none.
-    empty = "if (navigator.mediaDevices) navigator.mediaDevices.enumerateDevices = async () => [];"
-    there = empty.replace("[]", "[{ kind: 'audioinput', deviceId: '' }]")
-    refused = f"{there} if (navigator.mediaDevices) navigator.mediaDevices.getUserMedia = async () => {{ throw new DOMException('', 'NotAllowedError'); }};"
-    for before in (empty, f"{there} delete window.MediaRecorder;"):
+    for before in (NO_DEVICE, f"{one_device('audioinput')} delete window.MediaRecorder;"):
         crew = scene.crew(seat.address, before=before)
         crew.press("fresh")
         expect(crew.value("offerRecorder().then(() => byId('record').hidden)"), True, f"the button where {before}")
-    crew = scene.crew(seat.address, before=refused)
+    crew = scene.crew(seat.address, before=refused_device("audioinput"))
     crew.page.wait("!byId('record').hidden")
     crew.press("fresh")
     crew.press("record")

@@ -18,7 +18,8 @@ from crew_page_check import NAMES, by_title, expect_quiet, focus, rows_of
 DEVICE = """(() => {
   const device = navigator.geolocation;
   const gps = window.gps = { watches: new Map(), begun: 0, asked: 0, at: null };
-  device.watchPosition = (good, bad) => { gps.begun += 1; gps.watches.set(gps.begun, { good, bad }); return gps.begun; };
+  device.watchPosition = (good, bad) => {
+    gps.begun += 1; gps.watches.set(gps.begun, { good, bad }); return gps.begun; };
   device.clearWatch = number => void gps.watches.delete(number);
   device.getCurrentPosition = good => { gps.asked += 1; good(gps.at); };
   window.deviceTells = (longitude, latitude, more) => {
@@ -36,7 +37,10 @@ BESIDE_5 = "deviceTells(9.00482783030847, 50.554594268836)"  # 500342, 5600296
 BELOW_9 = "deviceTells(9.00889375062439, 50.5566085037079)"  # 500630, 5600520
 BETWEEN = "deviceTells(9.00705850539726, 50.5564287656389{})"  # 500500, 5600500
 TITLES = "[...byId('rows').querySelectorAll('button')].map(it => it.firstChild.data).slice(0, 2)"
-SWITCHES = "[byId('locate').ariaPressed, byId('follow').hidden, byId('follow').ariaPressed, byId('mine').hidden, gps.watches.size]"
+SWITCHES = (
+    "[byId('locate').ariaPressed, byId('follow').hidden, byId('follow').ariaPressed, byId('mine').hidden,"
+    " gps.watches.size]"
+)
 
 
 def in_the_middle(east, north):
@@ -295,7 +299,8 @@ def out_and_in_again(scene, seat, rows):
         expect(columns[-3:], [("acc", "REAL"), ("h", "REAL"), ("age", "INTEGER")], "the columns")
         found = {title: it for title, *it in opened.execute("SELECT title, note, acc, h, age >= 0 FROM spots")}
     expect([found[it] for it in ("Oak", "Stone 5", "Stone 6")],
-           [["under the oak", 4.2, 181.5, 1], ["from the books", 4.2, 179, 1], ["from the books", None, None, None]], "what they have")  # fmt: skip
+           [["under the oak", 4.2, 181.5, 1], ["from the books", 4.2, 179, 1], ["from the books", None, None, None]],
+           "what they have")  # fmt: skip
     run(TOP / "tools" / "import_standard.py", out, records, "--columns", "--key", "id", status=None)
     file = scene.folder / "mine.mmpkg"
     new_package(file, records.read_text())
@@ -311,7 +316,8 @@ def out_and_in_again(scene, seat, rows):
 # receiver
 # with corrections is at 9.005, 50.552, that is 500354.2158, 5600007.5305.
 SERIAL = """(() => {
-  const sum = text => [...text].reduce((all, it) => all ^ it.charCodeAt(0), 0).toString(16).toUpperCase().padStart(2, '0');
+  const sum = text => [...text].reduce((all, it) => all ^ it.charCodeAt(0), 0)
+    .toString(16).toUpperCase().padStart(2, '0');
   const sentences = (second, fixed) => [
     `GNRMC,1200${second}.00,A,5033.12000,N,00900.30000,E,0.01,,290626,,,${fixed ? 'R' : 'A'},V`,
     `GNGGA,1200${second}.00,5033.12000,N,00900.30000,E,${fixed ? 4 : 1},14,0.60,133.500,M,48.000,M,1.0,0000`,
@@ -336,7 +342,8 @@ SERIAL = """(() => {
   const tick = fixed => { second = second === 59 ? 10 : second + 1; lines && lineTells(sentences(second, fixed)); };
   window.lineRuns = fixed => { clearInterval(ticks); ticks = setInterval(tick, 100, fixed); };
   window.lineStops = () => clearInterval(ticks);
-  window.lineBreaks = () => { const was = lines; port.readable = lines = null; was.error(new Error('The device has been lost.')); };
+  window.lineBreaks = () => { const was = lines;
+    port.readable = lines = null; was.error(new Error('The device has been lost.')); };
 })();"""
 
 
@@ -361,7 +368,8 @@ def check_a_receiver(scene):
     )
     crew.value("lineRuns(true), 0")
     page.wait(
-        "byId('received').innerText === 'RTK fixed, 14 satellites, within 0.03 m, 181.50 m above the ellipsoid (within 0.05 m)'"
+        "byId('received').innerText === 'RTK fixed, 14 satellites, within 0.03 m, 181.50 m above the ellipsoid (within"
+        " 0.05 m)'"
     )
     scene.screenshot(crew, "receiver")
     crew.press("locate")
@@ -445,7 +453,10 @@ def check_a_receiver_is_offered_where_there_are_ports(scene):
 
 def check_my_place_on_small_screens(scene):
     """The buttons and words of my place fit each screen, lie beside each other, and stand out."""
-    inside = "(box => it => it.left >= box.left && it.right <= box.right && it.top >= box.top && it.bottom <= box.bottom)(byId('map').getBoundingClientRect())"
+    inside = (
+        "(box => it => it.left >= box.left && it.right <= box.right && it.top >= box.top && it.bottom <="
+        " box.bottom)(byId('map').getBoundingClientRect())"
+    )
     boxes = "['locate', 'measure', 'follow', 'mine'].map(it => byId(it).getBoundingClientRect())"
     lie = """(boxes => boxes.some((one, at) => boxes.slice(at + 1).some(it => one.left < it.right && it.left < one.right
       && one.top < it.bottom && it.top < one.bottom)))"""
@@ -456,7 +467,10 @@ def check_my_place_on_small_screens(scene):
         name = f"mine-{wide}-{high}"
         scene.screenshot(crew, name)
         expect(crew.value(f"{boxes}.every({inside})"), True, f"all is over the map, {name}")
-        star = "(it => new DOMRect(it.x + it.width / 2 - 10, it.y + it.height / 2 - 10, 20, 20))(document.querySelector('#map .mine').getBoundingClientRect())"
+        star = (
+            "(it => new DOMRect(it.x + it.width / 2 - 10, it.y + it.height / 2 - 10, 20,"
+            " 20))(document.querySelector('#map .mine').getBoundingClientRect())"
+        )
         expect(crew.value(f"{lie}([...{boxes}, {star}])"), False, f"one lies over another, or over the mark, {name}")
         expect(crew.value("document.documentElement.scrollWidth <= innerWidth"), True, f"the page fits, {name}")
         small = "['locate', 'follow', 'receiver', 'speed'].filter(it => byId(it).getBoundingClientRect().height < 44)"

@@ -220,7 +220,10 @@ def check_a_report_while_the_package_is_gone(scene):
     crew.press("reporter")
     crew.page.wait("byId('made').innerText.startsWith('1 photo.')")
     assert crew.text("made").endswith("those that it has aren't all here."), crew.text("made")
-    marked = "[...byId('reported').querySelectorAll('li')].map(it => [it.querySelector('h2').innerText, it.querySelector('.waits').innerText])"
+    marked = (
+        "[...byId('reported').querySelectorAll('li')].map(it => [it.querySelector('h2').innerText,"
+        " it.querySelector('.waits').innerText])"
+    )
     expect(crew.value(marked), [["Waits", "to send"], ["Stone 7", "to send"]], "what waits")
     assert "not in the package yet: 2" in crew.text("about"), crew.text("about")
     expect_quiet(crew, "ERR_", "Failed to load resource")

@@ -130,8 +130,8 @@ def rows_of(seat, table="spots"):
 def related_of(seat, row):
     """The sizes and types of the photos that a row is related to."""
     query = (
-        "SELECT content_type, length(data) FROM mm_map JOIN mm_media m ON m.table_name = 'photos' AND m.id = related_id "
-        "JOIN mm_blobs b ON b.id = m.blob WHERE mapping = 'spots_photos' AND base_id = ?"
+        "SELECT content_type, length(data) FROM mm_map JOIN mm_media m ON m.table_name = 'photos' AND m.id = related_id"
+        " JOIN mm_blobs b ON b.id = m.blob WHERE mapping = 'spots_photos' AND base_id = ?"
     )
     with contextlib.closing(sqlite3.connect(f"file:{seat.file}?mode=ro&immutable=1", uri=True)) as opened:
         return opened.execute(query, (row,)).fetchall()
@@ -204,7 +204,8 @@ def check_a_photo_on_its_way(scene):
     seat, crew = scene.begin()
     shut = "window.gate = new Promise(good => { window.opens = good; }), 0"
     crew.value(
-        f"window.atOnce = createImageBitmap, window.createImageBitmap = async file => {{ await gate; return atOnce(file); }}, {shut}"
+        "window.atOnce = createImageBitmap, window.createImageBitmap = async file => { await gate; return"
+        f" atOnce(file); }}, {shut}"
     )
     crew.press("fresh")
     crew.fill(title="Quick", place=(500_400, 5_600_500))
@@ -234,7 +235,8 @@ def check_a_form_that_opens_while_another_is_kept(scene):
     """A slow disk keeps an act behind the next form's opening: that form stays open, and both are kept."""
     seat, crew = scene.begin()
     crew.value(
-        "window.atOnce = keep; keep = async work => { await atOnce(work); await new Promise(good => setTimeout(good, 1000)); }; 0"
+        "window.atOnce = keep; keep = async work => { await atOnce(work); await new Promise(good => setTimeout(good,"
+        " 1000)); }; 0"
     )
     crew.open("Stone 4")
     for _ in range(2):
@@ -284,7 +286,8 @@ def check_search_and_order(scene):
     crew.write("search", "")
     crew.value("map.setView([5600360, 500420], 1, { animate: false }); 0")
     for order, first in (("oldest", ["Stone 1", "Stone 2"]), ("title", ["Stone 1", "Stone 2"]),
-                         ("amount", ["Stone 12", "Stone 11"]), ("near", ["Stone 6", "Stone 5"]), ("newest", ["Stone 12", "Stone 11"])):  # fmt: skip
+                         ("amount", ["Stone 12", "Stone 11"]), ("near", ["Stone 6", "Stone 5"]),
+                         ("newest", ["Stone 12", "Stone 11"])):  # fmt: skip
         crew.value(f"byId('order').value = '{order}'; byId('order').dispatchEvent(new Event('change')); 0")
         expect(crew.rows()[:2], first, order)
     expect_quiet(crew)
@@ -472,7 +475,8 @@ def check_the_way_to_a_row(scene):
     # By gdaltransform the first is at 500354.2 E, 5600007.5 N.
     page.device_is_at(9.005, 50.552, 4.2)
     crew.value(
-        "window.awake = 0; navigator.wakeLock.request = async () => { window.awake += 1; return { release() { window.awake -= 1; } }; }; 0"
+        "window.awake = 0; navigator.wakeLock.request = async () => { window.awake += 1; return { release() {"
+        " window.awake -= 1; } }; }; 0"
     )
     crew.press("lead")
     page.wait("byId('way').innerText === '378 m, 21° (N), within 5 m'")
@@ -948,7 +952,10 @@ def check_what_the_desk_refuses(scene):
     crew.page.wait("byId('state').innerText.includes('its key has changed')")
     seat.again(key=KEY)
     crew.wait_until_it_stands()
-    large = "[{ table: 'spots', what: 'Large', records: [['media', 'photos', 9, 'image/jpeg']] }], [{ id: 9, bytes: new ArrayBuffer(8400000) }]"
+    large = (
+        "[{ table: 'spots', what: 'Large', records: [['media', 'photos', 9, 'image/jpeg']] }], [{ id: 9, bytes: new"
+        " ArrayBuffer(8400000) }]"
+    )
     crew.value(f"post({large})")
     crew.page.wait("outbox.waiting.length === 1 && outbox.waiting[0].refused")
     assert "too large for the package" in crew.waiting()[0], crew.waiting()
@@ -1021,7 +1028,8 @@ def check_a_refused_row_that_is_being_changed(scene):
     row = "{ id: 900, title: 'With', note: '', amount: 0 }"
     records = "[['row', 'none', 900, 'With', '', 0], ['media', 'photos', 902, 'image/jpeg']]"
     crew.value(
-        f"post([{{ table: 'spots', of: 900, row: {row}, what: 'With', records: {records} }}], [{{ id: 902, bytes: new ArrayBuffer(10) }}])"
+        f"post([{{ table: 'spots', of: 900, row: {row}, what: 'With', records: {records} }}], [{{ id: 902, bytes: new"
+        " ArrayBuffer(10) }])"
     )
     crew.page.wait("outbox.waiting.length === 1 && outbox.waiting[0].refused")
     press_of_outbox(crew, "Change")
@@ -1045,7 +1053,8 @@ def check_a_list_that_is_refused_in_part(scene):
     seat, crew = scene.begin()
     row = "{ id: 900, title: 'Half', note: '', amount: 0 }"
     crew.value(
-        f"post([{{ table: 'spots', row: {row}, what: 'Half', records: [['row', 'spots', 900, 'Half', '', 0], ['row', 'none', 1, '', '', 0]] }}])"
+        f"post([{{ table: 'spots', row: {row}, what: 'Half', records: [['row', 'spots', 900, 'Half', '', 0], ['row',"
+        " 'none', 1, '', '', 0]] }])"
     )
     crew.page.wait("outbox.waiting.length === 1 && outbox.waiting[0].refused")
     for _ in range(2):
@@ -1099,7 +1108,10 @@ def with_trees(scene, trees, **how):
 def check_5000_rows(scene):
     """With 5,000 rows the list is there, searched and ordered within a second, and the map shows them."""
     _, crew = with_trees(scene, 5000 - STONES)
-    timed = "(act => { const began = performance.now(); act(); byId('rows').offsetHeight; return performance.now() - began; })"
+    timed = (
+        "(act => { const began = performance.now(); act(); byId('rows').offsetHeight; return performance.now() -"
+        " began; })"
+    )
     changed = "(() => {{ byId('{0}').value = '{1}'; byId('{0}').dispatchEvent(new Event('{2}')); }})"
     took = {word or "no word": crew.value(timed + changed.format("search", word, "input")) for word in ("tree 12", "")}
     took |= {
@@ -1239,7 +1251,8 @@ def check_marks_of_hundreds_of_rows(scene):
 
 # Whether a mark is drawn, at so many times its size to the right and down of its place.
 IS_DRAWN = """((id, right, down) => {
-  const { mark } = marked.get(`spots/${id}`), { canvas } = marks, at = mark._point, from = canvas._bounds.min, size = mark.getRadius();
+  const { mark } = marked.get(`spots/${id}`), { canvas } = marks,
+    at = mark._point, from = canvas._bounds.min, size = mark.getRadius();
   const [x, y] = [at.x - from.x + right * size, at.y - from.y + down * size].map(Math.round);
   return canvas._ctx.getImageData(x, y, 1, 1).data[3] > 0;
 })"""
@@ -1269,7 +1282,8 @@ def check_the_shape_of_a_mark(scene):
     crew.value(f"keep(acts => acts.put({{ ...{act}, at: KEY, saved: saving() }}))")
     crew.write("search", "")
     crew.page.wait(
-        "marked.get('spots/5')?.mark.row.waits === 'waits' && marked.get('spots/6')?.mark.row.waits === 'refused' && marked.has('spots/7')"
+        "marked.get('spots/5')?.mark.row.waits === 'waits' && marked.get('spots/6')?.mark.row.waits === 'refused' &&"
+        " marked.has('spots/7')"
     )
     crew.page.wait("new Promise(good => requestAnimationFrame(() => requestAnimationFrame(() => good(true))))")
     # A square has its corners, and a triangle two of them below, and none above.
@@ -1322,9 +1336,9 @@ def check_a_frame_of_another_site(scene):
     folder = scene.folder / "site"
     folder.mkdir()
     (folder / "index.html").write_text(
-        f"<!doctype html><title>other</title><iframe src='{seat.address}/media/viewer/1' width='800' height='600'></iframe>"
-        f"<img id='image' src='{seat.address}/media/photos/7'><form id='form' method='post' enctype='text/plain' "
-        f"action='{seat.address}/records'><input name='row,spots,800,Evil,,' value='0'></form>"
+        f"<!doctype html><title>other</title><iframe src='{seat.address}/media/viewer/1' width='800'"
+        f" height='600'></iframe><img id='image' src='{seat.address}/media/photos/7'><form id='form' method='post'"
+        f" enctype='text/plain' action='{seat.address}/records'><input name='row,spots,800,Evil,,' value='0'></form>"
     )
 
     class Quiet(http.server.SimpleHTTPRequestHandler):
@@ -1340,7 +1354,10 @@ def check_a_frame_of_another_site(scene):
         page.wait("document.readyState === 'complete'")
         (shown,) = page.frames()
         for mode, kind in itertools.product(("no-cors", "cors"), ("text/csv", "text/plain")):
-            how = f"{{ method: 'POST', mode: '{mode}', headers: {{ 'Content-Type': '{kind}' }}, body: 'row,spots,801,Evil,,0' }}"
+            how = (
+                f"{{ method: 'POST', mode: '{mode}', headers: {{ 'Content-Type': '{kind}' }}, body:"
+                " 'row,spots,801,Evil,,0' }"
+            )
             page.value(f"fetch('{seat.address}/records', {how}).then(it => it.status, it => 0)")
         expect(
             page.value(f"fetch('{seat.address}/rows/spots/1').then(it => it.text(), () => 'kept')"),
@@ -1413,7 +1430,8 @@ def check_answers_of_a_stranger(scene):
     kinds = [{"kind": "text/html", "body": b"1 ok\n2 ok\n3 ok\n"},
              {"kind": "text/plain", "body": b"1 ok\n2 ok\n3 ok\n4 ok\n"},
              {"kind": "text/plain", "body": b"ok\nok\nok\n"}, {"kind": "application/json", "body": b"[]"},
-             {"kind": "application/json", "body": b"{}"}, {"status": 404, "body": b"none"}, {"kind": "text/plain", "body": b""}]  # fmt: skip
+             {"kind": "application/json", "body": b"{}"},
+             {"status": 404, "body": b"none"}, {"kind": "text/plain", "body": b""}]  # fmt: skip
     for how in kinds:
         with Stranger(seat.port, **how) as stranger:
             crew.value("clearTimeout(later), send(), 0")
@@ -1655,7 +1673,8 @@ def check_the_name_of_the_package(scene):
 # Posts a number of acts that make rows.
 MANY = """(async count => {
   const rows = Array.from({ length: count }, (_, at) => ({ id: 9000 + at, title: `Post ${at}`, note: '', amount: at }));
-  const act = row => ({ row, records: [rowRecord('spots', row)], table: 'spots', of: row.id, saw: null, what: row.title });
+  const act = row => ({ row, records: [rowRecord('spots', row)],
+    table: 'spots', of: row.id, saw: null, what: row.title });
   await post(rows.map(act));
 })"""
 
@@ -1850,11 +1869,13 @@ def check_a_drawing_with_a_clear_ground(scene):
 
 CONTRAST = """(() => {
   const parts = text => text.match(/[0-9.]+/g).map(Number);
-  const light = ([r, g, b]) => [r, g, b].map(it => it / 255).map(it => it <= 0.04045 ? it / 12.92 : ((it + 0.055) / 1.055) ** 2.4)
+  const light = ([r, g, b]) => [r, g, b].map(it => it / 255)
+    .map(it => it <= 0.04045 ? it / 12.92 : ((it + 0.055) / 1.055) ** 2.4)
     .reduce((sum, it, at) => sum + it * [0.2126, 0.7152, 0.0722][at], 0);
   const ground = it => parts(getComputedStyle(it).backgroundColor);
   const behind = it => !it ? [255, 255, 255] : ground(it)[3] === 0 ? behind(it.parentElement) : ground(it);
-  return [...document.querySelectorAll('header *, aside *, #messages *, #none *')].filter(it => it.offsetParent && !it.disabled &&
+  return [...document.querySelectorAll('header *, aside *, #messages *, #none *')]
+    .filter(it => it.offsetParent && !it.disabled &&
     [...it.childNodes].some(node => node.nodeType === 3 && node.data.trim())).map(it => {
     const [one, other] = [light(parts(getComputedStyle(it).color)), light(behind(it))].sort((a, b) => b - a);
     return [(one + 0.05) / (other + 0.05), it.tagName, it.textContent.slice(0, 30)];
@@ -1864,7 +1885,8 @@ CONTRAST = """(() => {
 
 # Has the page look as where a browser is asked for all of some things: its rules for these are rules for all then.
 LOOK_AS = """(words => {
-  const rules = [...document.styleSheets].filter(it => it.ownerNode.tagName === 'STYLE').flatMap(it => [...it.cssRules]);
+  const rules = [...document.styleSheets].filter(it => it.ownerNode.tagName === 'STYLE')
+    .flatMap(it => [...it.cssRules]);
   const asks = it => it.media?.mediaText.split(' and ').every(part => words.some(word => part.includes(word)));
   const asked = rules.filter(asks);
   for (const it of asked) it.media.mediaText = 'all';
@@ -1891,7 +1913,8 @@ def check_by_night_and_with_more_contrast(scene):
     assert pressed != other, f"a button that is pressed is {pressed}, as another"
 
 
-NAMES = """[...document.querySelectorAll('button, input, select, textarea')].filter(it => it.checkVisibility()).map(it =>
+NAMES = """[...document.querySelectorAll('button, input, select, textarea')]
+  .filter(it => it.checkVisibility()).map(it =>
   it.getAttribute('aria-label') ?? (it.labels?.[0]?.firstChild.data ?? it.innerText).trim())"""
 
 
@@ -1903,7 +1926,8 @@ def check_names_of_what_is_pressed(scene):
     names = crew.value(NAMES)
     expect([it for it in set(names) if not it or names.count(it) > 1], [], "names that are none, or of two")
     heads = crew.value(
-        "[...document.querySelectorAll('h1, h2, legend')].filter(it => it.checkVisibility()).map(it => it.firstChild.data.trim())"
+        "[...document.querySelectorAll('h1, h2, legend')].filter(it => it.checkVisibility()).map(it =>"
+        " it.firstChild.data.trim())"
     )
     expect([it for it in heads if heads.count(it) > 1], [], "heads of one name")
     expect(
@@ -1976,8 +2000,10 @@ def check_a_map_without_a_zoom(scene):
     seat = Seat(file)
     scene.seats.append(seat)
     crew = scene.crew(seat.address)
-    words = ("No zoom is laid out yet for Bare map: there is nothing to see of it until the office lays one out and puts "
-             "in tiles. Open the package again then.")  # fmt: skip
+    words = (
+        "No zoom is laid out yet for Bare map: there is nothing to see of it until the office lays one out and "
+        "puts in tiles. Open the package again then."
+    )
     expect(crew.text("messages"), words, "what is said")
     expect_quiet(crew)
 
@@ -2013,7 +2039,11 @@ def check_a_new_row_on_small_screens(scene):
     touch(crew, "fresh")
     for element in ("title", "search"):
         crew.value(f"byId('{element}').focus(); 0")
-        over = "[...byId('place').querySelectorAll('button, a')].filter(it => it.checkVisibility() && it.getBoundingClientRect().bottom > byId('place').getBoundingClientRect().bottom).map(it => it.id || it.className)"
+        over = (
+            "[...byId('place').querySelectorAll('button, a')].filter(it => it.checkVisibility() &&"
+            " it.getBoundingClientRect().bottom > byId('place').getBoundingClientRect().bottom).map(it => it.id ||"
+            " it.className)"
+        )
         expect(crew.value(over), [], f"what hangs over the form, with the keys for {element} up")
         scene.screenshot(crew, f"keys-{element}")
 
@@ -2043,7 +2073,8 @@ def check_small_screens_and_sunlight(scene):
             f"the state is told whole at {wide} pixels",
         )
         sizes = crew.value(
-            "['map', 'panel', 'edit', 'save'].map(it => byId(it).getBoundingClientRect()).map(it => [it.left, it.top, it.right, it.bottom])"
+            "['map', 'panel', 'edit', 'save'].map(it => byId(it).getBoundingClientRect()).map(it => [it.left, it.top,"
+            " it.right, it.bottom])"
         )
         of_map, panel, edit, save = (
             [max(left, 0), max(top, 0), min(right, wide), min(bottom, high)] for left, top, right, bottom in sizes
@@ -2185,7 +2216,8 @@ def check_maps_behind_the_work(scene):
 def switch(crew, at, what, to):
     """Changes a field of a map in the list."""
     crew.value(
-        f"(it => {{ it.{to}; it.dispatchEvent(new Event('change')); }})(byId('layers').children[{at}].querySelector('{what}')); 0"
+        f"(it => {{ it.{to}; it.dispatchEvent(new Event('change'));"
+        f" }})(byId('layers').children[{at}].querySelector('{what}')); 0"
     )
 
 
@@ -2235,8 +2267,10 @@ def check_shapes_behind_the_work(scene):
             True,
             "the names",
         )
-        overlaps = """(boxes => boxes.some((one, at) => boxes.slice(at + 1).some(it => one.left < it.right && it.left < one.right
-          && one.top < it.bottom && it.top < one.bottom)))([...document.querySelectorAll('.named')].map(it => it.getBoundingClientRect()))"""
+        overlaps = """(boxes => boxes.some((one, at) =>
+          boxes.slice(at + 1).some(it => one.left < it.right && it.left < one.right
+          && one.top < it.bottom && it.top < one.bottom)))
+            ([...document.querySelectorAll('.named')].map(it => it.getBoundingClientRect()))"""
         expect(crew.value(overlaps), False, "whether one name lies over another")
         scene.screenshot(crew, "parcels")
         asked = len(parcels.asked)
@@ -2355,7 +2389,8 @@ def check_maps_that_end(scene):
 def photo_with_a_place(scene, crew, name, degrees=True):
     """A JPEG of the browser's making, with Exif that tells 50° 33' 7.2" N, 9° 0' 18" E where it is asked for."""
     told = crew.value(
-        "(it => (it.width = 400, it.height = 300, it.getContext('2d').fillRect(0, 0, 200, 150), it.toDataURL('image/jpeg')))(document.createElement('canvas'))"
+        "(it => (it.width = 400, it.height = 300, it.getContext('2d').fillRect(0, 0, 200, 150),"
+        " it.toDataURL('image/jpeg')))(document.createElement('canvas'))"
     )
     data = base64.b64decode(told.split(",")[1])
     rationals = struct.pack("<12I", 50, 1, 33, 1, 72, 10, 9, 1, 0, 1, 18, 1)
@@ -2422,7 +2457,7 @@ def check_slips_are_told(scene):
     list."""
     file = scene.copy()
     lines = [
-        "row,spots,30,Comma,\"@25832:500100,5/5600100,25\",0",
+        'row,spots,30,Comma,"@25832:500100,5/5600100,25",0',
         "row,spots,31,Tail,@25832:500100/5600100weg,0",
         "row,spots,32,Swapped,@25832:5600100/500100,0",
         "row,spots,33,Address,mail ada@example.org,0",
@@ -2434,7 +2469,10 @@ def check_slips_are_told(scene):
     seat = Seat(file)
     scene.seats.append(seat)
     crew = scene.crew(seat.address)
-    words = "2 rows have a word with @ that is no place; 1 row has its place outside all maps; less than a metre wide or high: Tiny map"
+    words = (
+        "2 rows have a word with @ that is no place; 1 row has its place outside all maps; less than a metre wide or"
+        " high: Tiny map"
+    )
     expect(crew.text("slips"), words, "what is said")
     expect(crew.text("messages"), "", "what is said above the map")
     crew.change("Comma", note="mended")

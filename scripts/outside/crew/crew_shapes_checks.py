@@ -142,7 +142,8 @@ def check_an_area(scene):
     crew.write("search", "")
     crew.page.wait("placed.length === 12")
     said = draw_three(crew, "area")
-    words = ["Tap the corners of the area on the map.", "Tap the next corner., snapped", "Side 368.8 m. Tap the next corner., snapped",
+    words = ["Tap the corners of the area on the map.", "Tap the next corner., snapped",
+             "Side 368.8 m. Tap the next corner., snapped",
              "Area 33,600 m², 888.8 m around (last 240.0 m)"]  # fmt: skip
     expect(said, words, "what is said as it is drawn")
     crew.tap(*beside(crew, 500_070, 5_600_060, -3))
@@ -271,10 +272,11 @@ def check_files_of_shapes(scene):
     """GeoJSON and GPX of other programs are files of a row, byte for byte, and on the map; one that is too long isn't
     taken."""
     seat, crew = scene.begin()
-    place = "{{\"type\": \"Feature\", \"properties\": {{}}, \"geometry\": {}}}"
+    place = '{{"type": "Feature", "properties": {{}}, "geometry": {}}}'
     texts = {"line.geojson": place.format(json.dumps({"type": "LineString", "coordinates": DEGREES[:2]})),
              "point.geojson": place.format('{"type": "Point", "coordinates": [9, 50]}'),
-             "way.gpx": f"<gpx version='1.1' xmlns='{GPX[1:-1]}'><trk><trkseg><trkpt lon='{DEGREES[0][0]}' lat='{DEGREES[0][1]}'/>"
+             "way.gpx": f"<gpx version='1.1' xmlns='{GPX[1:-1]}'><trk><trkseg>"
+                        f"<trkpt lon='{DEGREES[0][0]}' lat='{DEGREES[0][1]}'/>"
                         f"<trkpt lon='{DEGREES[2][0]}' lat='{DEGREES[2][1]}'/></trkseg></trk></gpx>"}  # fmt: skip
     texts["longer.gpx"] = texts["way.gpx"].ljust(MOST + 1)
     for name, text in texts.items():
@@ -284,7 +286,8 @@ def check_files_of_shapes(scene):
     crew.page.choose_files("byId('pictures')", [scene.folder / name for name in texts])
     words = "longer.gpx has 4.1 MiB: the package takes files of at most 4.0 MiB."
     crew.page.wait(f"byId('told').innerText === {json.dumps(words)} && {TAKEN.format(3)}")
-    shown = ["Line, 368.8 m / line.geojson, not saved yet / Leave out", "Shape, 1 KiB / point.geojson, not saved yet / Leave out",
+    shown = ["Line, 368.8 m / line.geojson, not saved yet / Leave out",
+             "Shape, 1 KiB / point.geojson, not saved yet / Leave out",
              "Track, 280.0 m / way.gpx, not saved yet / Leave out"]  # fmt: skip
     expect(crew.value(ITEMS), shown, "what is taken")
     crew.page.wait(SHOWN.format(2))
@@ -302,7 +305,8 @@ def steps_of(data):
     """The parts of a GPX's track: longitudes, latitudes, and whether each has a time."""
     root = xml.etree.ElementTree.fromstring(data)
     assert root.tag == f"{GPX}gpx" and root.get("version") == "1.1", root.tag
-    return [[(float(it.get("lon")), float(it.get("lat")), it.find(f"{GPX}ele") is not None, it.find(f"{GPX}time") is not None)
+    return [[(float(it.get("lon")), float(it.get("lat")), it.find(f"{GPX}ele") is not None,
+            it.find(f"{GPX}time") is not None)
              for it in part] for part in root.iterfind(f"{GPX}trk/{GPX}trkseg")]  # fmt: skip
 
 
@@ -456,7 +460,10 @@ def check_drawing_by_fingers(scene):
 
         wait_until(is_taken, f"corner {at}")
     scene.screenshot(crew, "line-fingers")
-    inside = "((it, box) => it.top >= box.top && it.bottom <= box.bottom)(byId('measured').getBoundingClientRect(), byId('map').getBoundingClientRect())"
+    inside = (
+        "((it, box) => it.top >= box.top && it.bottom <= box.bottom)(byId('measured').getBoundingClientRect(),"
+        " byId('map').getBoundingClientRect())"
+    )
     expect(crew.value(inside), True, "the drawing's words and buttons are over the map")
     free = "byId('measured').getBoundingClientRect().top - byId('map').getBoundingClientRect().top"
     assert crew.value(free) >= 88, f"{crew.value(free)} pixels of the map are free"

@@ -45,7 +45,8 @@ def with_owners(scene, count, **how):
 def middle_of(crew, key):
     """Where a mark is in the window, once it is drawn and alone there; the map is moved to it."""
     crew.value(
-        f"map.setView(marked.get('{key}')?.mark.getLatLng() ?? placed.filter(it => it.key === '{key}').map(it => [it.north, it.east])[0], 4, {{ animate: false }}); 0"
+        f"map.setView(marked.get('{key}')?.mark.getLatLng() ?? placed.filter(it => it.key === '{key}').map(it =>"
+        " [it.north, it.east])[0], 4, { animate: false }); 0"
     )
     crew.page.wait(DRAWN)
     at = f"map.latLngToContainerPoint(marked.get('{key}').mark.getLatLng()), byId('map').getBoundingClientRect()"
@@ -58,7 +59,8 @@ def tap_mark(crew, key):
 
 def choose(crew, element, value):
     crew.value(
-        f"byId('{element}').value = '{value}'; byId('{element}').dispatchEvent(new Event('change', {{ bubbles: true }})); 0"
+        f"byId('{element}').value = '{value}'; byId('{element}').dispatchEvent(new Event('change', {{ bubbles: true"
+        " })); 0"
     )
 
 
@@ -68,7 +70,8 @@ def switch_of(name):
 
 def legend_of(crew):
     return crew.value(
-        "[...byId('legend').querySelectorAll('label > span')].map(it => `${it.firstChild.data} / ${it.lastChild.textContent}`)"
+        "[...byId('legend').querySelectorAll('label > span')].map(it => `${it.firstChild.data} /"
+        " ${it.lastChild.textContent}`)"
     )
 
 
@@ -76,7 +79,10 @@ def check_rows_of_all_tables(scene):
     """Rows of another table are on the map, of another colour and shape; a tap opens one in its table, which is worked
     on then, with the program gone too; what is typed isn't lost."""
     seat, crew = with_owners(scene, 40)
-    looks = "(keys => keys.map(it => [marked.get(it).mark.options.fillColor, JSON.stringify(marked.get(it).mark.options.corners)]))"
+    looks = (
+        "(keys => keys.map(it => [marked.get(it).mark.options.fillColor,"
+        " JSON.stringify(marked.get(it).mark.options.corners)]))"
+    )
     [colour, shape], [other, others] = crew.value(f"{looks}(['spots/5', 'owners/1007'])")
     assert colour != other and shape != others, f"{colour} {shape} and {other} {others}"
     expect(
@@ -145,7 +151,8 @@ def check_what_another_writes_in_a_table_beside(scene):
     )
     crew.value("lookForNews().then(() => 0)")
     crew.page.wait(
-        "marked.get('owners/3')?.mark.row.title === 'Beech' && marked.get('owners/1001')?.mark.row.note.endsWith('moved')"
+        "marked.get('owners/3')?.mark.row.title === 'Beech' &&"
+        " marked.get('owners/1001')?.mark.row.note.endsWith('moved')"
     )
     crew.press("fresh")
     choose(crew, "into", "owners")
@@ -172,7 +179,8 @@ def check_the_switch_of_a_table(scene):
         "the switches",
     )
     x, y = crew.value(
-        f"(it => {{ it.scrollIntoView({{ block: 'center' }}); const box = it.closest('label').getBoundingClientRect(); return [box.x + box.width / 2, box.y + box.height / 2]; }})({box})"
+        "(it => { it.scrollIntoView({ block: 'center' }); const box = it.closest('label').getBoundingClientRect();"
+        f" return [box.x + box.width / 2, box.y + box.height / 2]; }})({box})"
     )
     crew.page.touch([(x, y)])
     crew.page.wait(f"placed.length === {STONES} && !{box}.checked")
@@ -229,8 +237,10 @@ def check_marks_of_5000_rows_of_two_tables(scene):
     assert 0 < covered < 0.2, f"marks cover {covered:.2f} of the map"
     crew.value("window.was = map.getCenter(); 0")
     took = {name: crew.value(f"{TOOK}({act})") for name, act in (
-        ("all anew", "() => { marks.clearLayers(); marked = new Map(); showMarks(); }"), ("a search", "turn => { byId('search').value = turn % 2 ? 'oak' : ''; showFound(); }"),
-        ("a move", "turn => map.panBy([turn % 2 ? 40 : -40, 20], { animate: false })"), ("a zoom", "turn => map.setZoom(1 + turn % 2, { animate: false })"))}  # fmt: skip
+        ("all anew", "() => { marks.clearLayers(); marked = new Map(); showMarks(); }"),
+        ("a search", "turn => { byId('search').value = turn % 2 ? 'oak' : ''; showFound(); }"),
+        ("a move", "turn => map.panBy([turn % 2 ? 40 : -40, 20], { animate: false })"),
+        ("a zoom", "turn => map.setZoom(1 + turn % 2, { animate: false })"))}  # fmt: skip
     print("    " + ", ".join(f"{name} {it:.0f} ms" for name, it in took.items()))
     crew.value("byId('search').value = ''; showFound(); fit(); 0")
     for _ in range(8):
@@ -239,7 +249,8 @@ def check_marks_of_5000_rows_of_two_tables(scene):
             "[...marked.values()].find(it => it.mark.words && map.getBounds().pad(-0.2).contains(it.mark.getLatLng()))"
         )
         where = crew.value(
-            f"(it => it ? ((at, box) => [box.x + at.x, box.y + at.y])(map.latLngToContainerPoint(it.mark.getLatLng()), byId('map').getBoundingClientRect()) : null)({group})"
+            "(it => it ? ((at, box) => [box.x + at.x, box.y + at.y])(map.latLngToContainerPoint(it.mark.getLatLng()),"
+            f" byId('map').getBoundingClientRect()) : null)({group})"
         )
         if where is None:
             break
@@ -287,7 +298,8 @@ def check_the_legend_on_small_screens_and_by_night(scene):
             if night:
                 assert crew.value(f"{LOOK_AS}(['scheme: dark'])"), "the page has no rules for the night"
             crew.value(
-                "byId('tabled').open = true, byId('tells').value = 'word', byId('tells').dispatchEvent(new Event('change')), byId('tabled').scrollIntoView(), 0"
+                "byId('tabled').open = true, byId('tells').value = 'word', byId('tells').dispatchEvent(new"
+                " Event('change')), byId('tabled').scrollIntoView(), 0"
             )
             look(scene, crew, "byId('tabled')", f"legend-{wide}{'-night' if night else ''}")
         expect(

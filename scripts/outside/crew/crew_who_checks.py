@@ -25,7 +25,8 @@ def named(crew, name):
 
 def choose(crew, element, value):
     crew.value(
-        f"byId('{element}').value = '{value}', byId('{element}').dispatchEvent(new Event('input', {{ bubbles: true }})), 0"
+        f"byId('{element}').value = '{value}', byId('{element}').dispatchEvent(new Event('input', {{ bubbles: true"
+        " })), 0"
     )
 
 

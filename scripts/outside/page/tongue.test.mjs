@@ -39,7 +39,7 @@ const UNSAID = {
   "map.js": ["move zoomend"],
   "marks.js": ["bold ", "px system-ui, sans-serif"],
   "measure.js": ["Escape"],
-  "media.mjs": ["OggS", " KiB", " MiB"],
+  "media.mjs": [" KiB", " MiB"],
   "mine.js": ["mine old"],
   "outbox.js": ["QuotaExceededError", "mmpkg outbox "],
   "photos.js": ["take ", " off ", "it is too long"],

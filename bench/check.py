@@ -6,8 +6,8 @@
 A package is filled with half the tiles, checked, filled with the rest, and checked again: processor seconds and peak
 memory, as /usr/bin/time tells them. SQLite's side, through Python's sqlite3 in a process of its own, does PRAGMA
 integrity_check, PRAGMA foreign_key_check and one scan that reads every tile. The check must take at most 2.3 times as
-long for twice the tiles, and its memory must not grow with their number. Opening the file is measured apart: the store
-then reads each page and checks its keys.
+long for twice the tiles, and its memory must not grow with their number. The store's own opening is measured apart,
+which reads each page and checks its keys: what is left of the check is the product's.
 """
 
 import os
@@ -79,8 +79,8 @@ def fill_other(file, start, end, size):
 
 
 def opening(program, file, folder):
-    """The same of opening alone: a copy whose profile row is that of another program is refused as soon as it is
-    open."""
+    """The same of the store's opening alone: a copy whose profile row is that of another program is refused as soon as
+    it is open."""
     copy = os.path.join(folder, "copy.mmpkg")
     shutil.copy(file, copy)
     database = sqlite3.connect(copy)
@@ -115,8 +115,8 @@ def main():
             theirs = measured([sys.executable, "-c", CHECKS, other])
             taken.append(ours)
             print(
-                f"{end} tiles: mmpkg {ours[0]:.2f} s, {ours[1]} KB, of which opening {alone[0]:.2f} s, {alone[1]} KB; "
-                f"SQLite {theirs[0]:.2f} s, {theirs[1]} KB"
+                f"{end} tiles: mmpkg {ours[0]:.2f} s, {ours[1]} KB, of which the store's opening {alone[0]:.2f} s, "
+                f"{alone[1]} KB; SQLite {theirs[0]:.2f} s, {theirs[1]} KB"
             )
         print(
             f"twice the tiles: {taken[1][0] / max(taken[0][0], 0.01):.2f} times the seconds, "

@@ -72,13 +72,28 @@ static int ask(sqlite3_stmt **made, const char *text, const char *kinds, ...) {
     return answer == SQLITE_ROW;
 }
 
-// A look whose first column is a number, -1 where there is no row; and a statement without rows. Each text has a statement of its own.
-#define NUMBER(text, ...) ({ static sqlite3_stmt *made; sqlite3_int64 it = ask(&made, text, __VA_ARGS__) ? sqlite3_column_int64(made, 0) : -1; \
-                             sqlite3_reset(made); it; })
-#define RUN(text, ...) ({ static sqlite3_stmt *made; ask(&made, text, __VA_ARGS__); sqlite3_reset(made); })
+// A look whose first column is a number, -1 where there is no row; and a statement without rows. Each text has a
+// statement of its own.
+#define NUMBER(text, ...)                                                                                              \
+    ({                                                                                                                 \
+        static sqlite3_stmt *made;                                                                                     \
+        sqlite3_int64 it = ask(&made, text, __VA_ARGS__) ? sqlite3_column_int64(made, 0) : -1;                         \
+        sqlite3_reset(made);                                                                                           \
+        it;                                                                                                            \
+    })
+#define RUN(text, ...)                                                                                                 \
+    ({                                                                                                                 \
+        static sqlite3_stmt *made;                                                                                     \
+        ask(&made, text, __VA_ARGS__);                                                                                 \
+        sqlite3_reset(made);                                                                                           \
+    })
 
-static void begin(void) { RUN("BEGIN", ""); }
-static void commit(void) { RUN("COMMIT", ""); }
+static void begin(void) {
+    RUN("BEGIN", "");
+}
+static void commit(void) {
+    RUN("COMMIT", "");
+}
 
 // The digest of bytes, in the hexadecimal digits in which it is kept.
 static const char *digest_of(Bytes bytes) {
@@ -100,7 +115,8 @@ static const char *digest_of(Bytes bytes) {
 // The blob of these bytes: the one that stands, or a new one.
 static sqlite3_int64 keep(Bytes bytes) {
     const char *digest = digest_of(bytes);
-    sqlite3_int64 stands = NUMBER("SELECT id FROM mm_blobs WHERE digest = ?1 AND data = ?2 LIMIT 1", "tb", digest, bytes);
+    sqlite3_int64 stands =
+        NUMBER("SELECT id FROM mm_blobs WHERE digest = ?1 AND data = ?2 LIMIT 1", "tb", digest, bytes);
     if (stands != -1)
         return stands;
     RUN("INSERT INTO mm_blobs (digest, data) VALUES (?1, ?2)", "tb", digest, bytes);
@@ -113,7 +129,8 @@ static void want_place(Place at) {
     want(ask(&kind, "SELECT kind FROM mm_tables WHERE table_name = ?1 LIMIT 1", "t", at.table), "no such table");
     want(strcmp((const char *)sqlite3_column_text(kind, 0), "two") == 0, "no pyramid");
     sqlite3_reset(kind);
-    const char *text = "SELECT matrix_width, matrix_height FROM gpkg_tile_matrix WHERE table_name = ?1 AND zoom_level = ?2 LIMIT 1";
+    const char *text =
+        "SELECT matrix_width, matrix_height FROM gpkg_tile_matrix WHERE table_name = ?1 AND zoom_level = ?2 LIMIT 1";
     want(ask(&sides, text, "ti", at.table, at.zoom), "no matrix");
     want(at.column < sqlite3_column_int64(sides, 0) && at.row < sqlite3_column_int64(sides, 1), "outside the matrix");
     sqlite3_reset(sides);
@@ -121,8 +138,8 @@ static void want_place(Place at) {
 
 // Puts a tile that names a blob, and sets the table's last change.
 static void name_tile(Place at, sqlite3_int64 blob) {
-    sqlite3_int64 stands = NUMBER(
-        "SELECT blob FROM mm_tiles WHERE table_name = ?1 AND zoom_level = ?2 AND tile_column = ?3 AND tile_row = ?4 LIMIT 1",
+    sqlite3_int64 stands = NUMBER("SELECT blob FROM mm_tiles WHERE table_name = ?1 AND zoom_level = ?2 AND tile_column "
+                                  "= ?3 AND tile_row = ?4 LIMIT 1",
         "tiii", at.table, at.zoom, at.column, at.row);
     want(stands == -1, "a tile stands there");
     RUN("INSERT INTO mm_tiles (table_name, zoom_level, tile_column, tile_row, blob) VALUES (?1, ?2, ?3, ?4, ?5)",
@@ -137,9 +154,12 @@ static void put_tile(Place at, Bytes bytes) {
 
 static void add_system(char **fields) {
     sqlite3_int64 number = atoll(fields[0]);
-    want(NUMBER("SELECT 1 FROM gpkg_spatial_ref_sys WHERE srs_id = ?1 LIMIT 1", "i", number) == -1, "the system stands");
-    RUN("INSERT INTO gpkg_spatial_ref_sys (srs_name, srs_id, organization, organization_coordsys_id, definition, description) "
-        "VALUES (?1, ?2, ?3, ?4, ?5, ?6)", "tititt", fields[1], number, fields[2], (sqlite3_int64)atoll(fields[3]), fields[4], fields[5]);
+    want(
+        NUMBER("SELECT 1 FROM gpkg_spatial_ref_sys WHERE srs_id = ?1 LIMIT 1", "i", number) == -1, "the system stands");
+    RUN("INSERT INTO gpkg_spatial_ref_sys (srs_name, srs_id, organization, organization_coordsys_id, definition, "
+        "description) "
+        "VALUES (?1, ?2, ?3, ?4, ?5, ?6)",
+        "tititt", fields[1], number, fields[2], (sqlite3_int64)atoll(fields[3]), fields[4], fields[5]);
 }
 
 // The piece that is looked at: its row, and its bytes.
@@ -150,9 +170,11 @@ static void leave_piece(void) {
     sqlite3_reset(piece_bytes);
 }
 
-// The piece of a number, if the edition has one: its place, and its bytes where they are asked for. All last until the piece is left.
+// The piece of a number, if the edition has one: its place, and its bytes where they are asked for. All last until the
+// piece is left.
 static int piece_at(const char *edition, sqlite3_int64 number, Place *at, Bytes *bytes) {
-    const char *row = "SELECT kind, name, k1, k2, k3, k4, k5, k6, k7, t1, t2, blob FROM mm_pieces WHERE edition = ?1 AND piece_no = ?2 LIMIT 1";
+    const char *row = "SELECT kind, name, k1, k2, k3, k4, k5, k6, k7, t1, t2, blob FROM mm_pieces WHERE edition = ?1 "
+                      "AND piece_no = ?2 LIMIT 1";
     if (!ask(&piece_row, row, "ti", edition, number))
         return 0;
     want(strcmp((const char *)sqlite3_column_text(piece_row, 0), "tile") == 0, "no tile");
@@ -176,7 +198,9 @@ static void want_open(const char *edition) {
 }
 
 static void want_equal(Place at, Bytes bytes, Place other, Bytes kept) {
-    want(strcmp(at.table, other.table) == 0 && at.zoom == other.zoom && at.column == other.column && at.row == other.row, "another piece");
+    want(
+        strcmp(at.table, other.table) == 0 && at.zoom == other.zoom && at.column == other.column && at.row == other.row,
+        "another piece");
     want(bytes.length == kept.length && memcmp(bytes.data, kept.data, kept.length) == 0, "other bytes");
 }
 
@@ -194,12 +218,14 @@ static void stage(const char *edition, sqlite3_int64 number, Place at, Bytes byt
     want(number == 1 || NUMBER(before, "ti", edition, number - 1) == 1, "not the next piece");
     sqlite3_int64 blob = keep(bytes);
     RUN("INSERT INTO mm_pieces (edition, piece_no, kind, name, k1, k2, k3, k4, k5, k6, k7, t1, t2, blob) "
-        "VALUES (?1, ?2, 'tile', ?3, ?4, ?5, ?6, 0, 0, 0, 0, '', '', ?7)", "titiiii", edition, number, at.table, at.zoom, at.column, at.row, blob);
+        "VALUES (?1, ?2, 'tile', ?3, ?4, ?5, ?6, 0, 0, 0, 0, '', '', ?7)",
+        "titiiii", edition, number, at.table, at.zoom, at.column, at.row, blob);
 }
 
 static void publish_piece(const char *edition, sqlite3_int64 number, Place at) {
     want_place(at);
-    name_tile(at, NUMBER("SELECT blob FROM mm_pieces WHERE edition = ?1 AND piece_no = ?2 LIMIT 1", "ti", edition, number));
+    name_tile(
+        at, NUMBER("SELECT blob FROM mm_pieces WHERE edition = ?1 AND piece_no = ?2 LIMIT 1", "ti", edition, number));
 }
 
 static int is_named(sqlite3_int64 blob) {
@@ -247,9 +273,13 @@ static int part(char *line, char **fields) {
     return count;
 }
 
-static Place place_of(char **fields) { return (Place){fields[0], atoll(fields[1]), atoll(fields[2]), atoll(fields[3])}; }
+static Place place_of(char **fields) {
+    return (Place){fields[0], atoll(fields[1]), atoll(fields[2]), atoll(fields[3])};
+}
 
-static int digit(char letter) { return letter <= '9' ? letter - '0' : (letter | 32) - 'a' + 10; }
+static int digit(char letter) {
+    return letter <= '9' ? letter - '0' : (letter | 32) - 'a' + 10;
+}
 
 // Decodes hexadecimal digits in place.
 static Bytes decoded(char *digits) {
@@ -320,7 +350,8 @@ static void import_kit(const char *edition, const char *folder) {
 static void open_file(const char *file) {
     want(sqlite3_open_v2(file, &database, SQLITE_OPEN_READWRITE, NULL) == SQLITE_OK, file);
     // A package's connection keeps up to 2,000 pages.
-    const char *settings = "PRAGMA journal_mode=WAL; PRAGMA synchronous=FULL; PRAGMA foreign_keys=ON; PRAGMA cache_size=2000";
+    const char *settings =
+        "PRAGMA journal_mode=WAL; PRAGMA synchronous=FULL; PRAGMA foreign_keys=ON; PRAGMA cache_size=2000";
     want(sqlite3_exec(database, settings, NULL, NULL, NULL) == SQLITE_OK, settings);
 }
 

@@ -1,12 +1,12 @@
 #!/usr/bin/env bash
 # What the built program shows from outside, by programs that share no code with this repository: the example with its
 # output, the lines of the documents, where the program calls the system for files, what a build leaves in its clone,
-# the tables of the file, the page and the desk by curl and over sockets, a machine's clock at its ends, a terminal,
-# refused growths of memory, random lists against a model, what turns one package into another, copies that go out and
-# come home; and where the peers are there, the border to the standard, maps by one command and beside a package, the
-# viewer in two browsers, a crew at the page and its command, GDAL and QGIS by WMTS, the day of two crews by lists and
-# by the page, the Debian package in a fresh Debian, and the power of a virtual machine that is cut. The last line is 'N
-# passed, M failed'.
+# the tables of the file, the page and the desk by curl and over sockets, a machine's clock at its ends, what waits
+# for the disk, a terminal, refused growths of memory, random lists against a model, what turns one package into
+# another, copies that go out and come home; and where the peers are there, the border to the standard, maps by one
+# command and beside a package, the viewer in two browsers, a crew at the page and its command, GDAL and QGIS by WMTS,
+# the day of two crews by lists and by the page, the Debian package in a fresh Debian, and the power of a virtual
+# machine that is cut. The last line is 'N passed, M failed'.
 #
 #     scripts/outside.sh [PROGRAM]
 #
@@ -90,7 +90,7 @@ example() {
     diff examples/expected.txt "$folder/example.txt" && echo "each line as in examples/expected.txt"
 }
 
-want sqlite3:sqlite3 curl:curl xxd:xxd cc:gcc /usr/bin/python3:python3
+want sqlite3:sqlite3 curl:curl xxd:xxd cc:gcc strace:strace /usr/bin/python3:python3
 # Peers: what needs one that can't be had is not tried.
 modules=/usr/lib/python3/dist-packages
 want gdalinfo:gdal-bin gdal2tiles.py:python3-gdal "$modules/osgeo:python3-gdal"
@@ -110,6 +110,7 @@ begin 'calls for files' scripts/outside/tree/file_calls_check.py
 begin 'what a build leaves' scripts/outside/tree/build_check.py
 begin 'the linters' scripts/outside/tree/lint.sh
 begin 'the clock' scripts/outside/program/clock.sh
+begin 'what waits for the disk' scripts/outside/program/syncs_check.py
 begin 'a terminal' scripts/outside/program/terminal.py
 begin 'refused growths of memory' scripts/outside/program/refuse_memory.py ${WHOLE:+--whole}
 begin 'random lists' scripts/model/random_lists.py

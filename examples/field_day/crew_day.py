@@ -141,6 +141,12 @@ def take_place(crew, east, north):
     crew.page.wait("byId('told').innerText.startsWith('The device tells this place within 4 m')")
 
 
+def related_to(crew, number):
+    """How many files a row has, by the package: asked again where a busy machine let the desk close a connection."""
+    crew.page.wait(f"ask(`${{ROOT}}related/spots/{number}`, 'json').then(it => (window.related = it) !== null)")
+    return crew.value("related.length")
+
+
 def work(name, file, terrain, seed, out):
     dice = random.Random(int(seed))
     with tempfile.TemporaryDirectory() as folder, opened(file) as (running, address):
@@ -163,9 +169,7 @@ def work(name, file, terrain, seed, out):
             "ask(`${ROOT}rows/spots/1`, 'json').then(all => all.map(it => [it.id, it.title, it.note, it.amount]))"
         )
         assert sorted(rows) == sorted(stand), f"the page shows {sorted(rows)}, and the package has {stand}"
-        related = {
-            row[1]: crew.value(f"ask(`${{ROOT}}related/spots/{row[0]}`, 'json').then(it => it.length)") for row in rows
-        }
+        related = {row[1]: related_to(crew, row[0]) for row in rows}
         for _ in range(2):
             crew.press("end")
         crew.page.wait("ended")

@@ -13,7 +13,9 @@ COLUMNS = {
     "gpkg_spatial_ref_sys": "srs_name srs_id organization organization_coordsys_id definition description",
     "gpkg_contents": "table_name data_type identifier description last_change min_x min_y max_x max_y srs_id",
     "gpkg_tile_matrix_set": "table_name srs_id min_x min_y max_x max_y",
-    "gpkg_tile_matrix": "table_name zoom_level matrix_width matrix_height tile_width tile_height pixel_x_size pixel_y_size",
+    "gpkg_tile_matrix": (
+        "table_name zoom_level matrix_width matrix_height tile_width tile_height pixel_x_size pixel_y_size"
+    ),
     "gpkg_extensions": "table_name column_name extension_name definition scope",
     "gpkgext_relations": (
         "base_table_name base_primary_column related_table_name related_primary_column relation_name mapping_table_name"

@@ -369,12 +369,14 @@ def check_round_trip_of_random_3(folder):
 
 # What a standard GeoPackage may have and a package has not, put beside a package's own tables.
 FOREIGN = """
-INSERT INTO gpkg_spatial_ref_sys VALUES ('in feet', 2225, 'EPSG', 2225, 'PROJCS["f",GEOGCS["g",UNIT["degree",0.01745]],UNIT["foot",0.3048]]', NULL);
+INSERT INTO gpkg_spatial_ref_sys VALUES ('in feet', 2225, 'EPSG', 2225,
+  'PROJCS["f",GEOGCS["g",UNIT["degree",0.01745]],UNIT["foot",0.3048]]', NULL);
 INSERT INTO gpkg_spatial_ref_sys VALUES ('ETRS89', 4258, 'EPSG', 4258, 'GEOGCS["ETRS89",UNIT["degree",0.01745]]', NULL);
 CREATE TABLE roads (fid INTEGER PRIMARY KEY, geom BLOB);
 INSERT INTO gpkg_contents VALUES ('roads', 'features', 'roads', '', '2026-01-01T00:00:00.000Z', 0, 0, 1, 1, 25832);
 CREATE TABLE crew (fid INTEGER PRIMARY KEY, title TEXT);
-INSERT INTO gpkg_contents VALUES ('crew', 'attributes', 'crew', '', '2026-01-01T00:00:00.000Z', NULL, NULL, NULL, NULL, NULL);
+INSERT INTO gpkg_contents VALUES ('crew', 'attributes', 'crew', '',
+  '2026-01-01T00:00:00.000Z', NULL, NULL, NULL, NULL, NULL);
 CREATE TABLE crew_spots (base_id INTEGER, related_id INTEGER);
 INSERT INTO gpkgext_relations VALUES (9, 'crew', 'id', 'spots', 'id', 'simple_attributes', 'crew_spots');
 INSERT INTO spots VALUES (8, 'Gate', 'half', 0.5);
@@ -456,7 +458,8 @@ def check_what_is_whole(_):
 FOOT, METRE, DEGREE = 'UNIT["US survey foot",0.3048006]', 'UNIT["metre",1]', 'UNIT["degree",0.0174532925199433]'
 NEWER = (
     'PROJCRS["n",BASEGEOGCRS["g",PRIMEM["p",0,ANGLEUNIT["degree",0.0174532925199433]]],CONVERSION["c",METHOD["m"],'
-    'PARAMETER["p",0,LENGTHUNIT["metre",1]]],CS[Cartesian,2],AXIS["(E)",east,ORDER[1],LENGTH{0}],AXIS["(N)",north,ORDER[2],LENGTH{0}]]'
+    'PARAMETER["p",0,LENGTHUNIT["metre",1]]],CS[Cartesian,2],AXIS["(E)",east,ORDER[1],LENGTH{0}],'
+    'AXIS["(N)",north,ORDER[2],LENGTH{0}]]'
 )
 
 
@@ -921,11 +924,15 @@ def check_numbers_of_a_second_layer(folder):
 HANDED_OVER = """
 CREATE TABLE Spots (fid INTEGER PRIMARY KEY AUTOINCREMENT, title TEXT, note TEXT, amount REAL);
 INSERT INTO Spots VALUES (1, 'Well', NULL, 7.0), (2, NULL, NULL, -3), (3, 'Gate', '', 1.5), (4, 'Oak', '', NULL);
-INSERT INTO gpkg_contents VALUES ('Spots', 'attributes', 'Spots of 2026', '', '2026-01-01T00:00:00.000Z', NULL, NULL, NULL, NULL, NULL);
+INSERT INTO gpkg_contents VALUES ('Spots', 'attributes', 'Spots of 2026', '',
+  '2026-01-01T00:00:00.000Z', NULL, NULL, NULL, NULL, NULL);
 CREATE TABLE photos (fid INTEGER PRIMARY KEY AUTOINCREMENT, data BLOB, content_type TEXT);
-INSERT INTO photos VALUES (1, x'01', 'text/plain; charset=utf-8'), (2, x'02', 'image'), (3, x'03', 'text/plain;charset=utf-8');
-INSERT INTO gpkg_contents VALUES ('photos', 'attributes', 'photos', '', '2026-01-01T00:00:00.000Z', NULL, NULL, NULL, NULL, NULL);
-CREATE TABLE gpkgext_relations (id INTEGER PRIMARY KEY, base_table_name, base_primary_column, related_table_name, related_primary_column,
+INSERT INTO photos VALUES (1, x'01', 'text/plain; charset=utf-8'),
+  (2, x'02', 'image'), (3, x'03', 'text/plain;charset=utf-8');
+INSERT INTO gpkg_contents VALUES ('photos', 'attributes', 'photos', '',
+  '2026-01-01T00:00:00.000Z', NULL, NULL, NULL, NULL, NULL);
+CREATE TABLE gpkgext_relations (id INTEGER PRIMARY KEY, base_table_name, base_primary_column,
+  related_table_name, related_primary_column,
     relation_name, mapping_table_name);
 INSERT INTO gpkgext_relations VALUES (1, 'Spots', 'fid', 'photos', 'fid', 'media', 'spots_photos');
 CREATE TABLE spots_photos (base_id INTEGER, related_id INTEGER);
@@ -937,7 +944,10 @@ HANDED_OVER_LEFT_OUT = [
     "media item 2 of photos: its content type 'image' isn't two words round a /, as image/png is",
 ]
 HANDED_OVER_NOTED = [
-    "note of row 1 of spots, title of row 2 of spots, note of row 2 of spots: it is NULL, and comes in as the empty text",
+    (
+        "note of row 1 of spots, title of row 2 of spots, note of row 2 of spots: it is NULL, and comes in as the empty"
+        " text"
+    ),
     "media item 1 of photos: its content type 'text/plain; charset=utf-8' comes in as text/plain",
 ]
 
@@ -950,8 +960,10 @@ def check_what_a_gis_hands_over(folder):
         opened.executescript(HANDED_OVER)
     _, told = tool("import_standard.py", folder / "in.gpkg", folder / "none.csv", status=1)
     for line in (
-        "left out: table 'Basemap': its name is no name of a package, which has small letters, digits and _; "
-        "--table Basemap=basemap gives it one",
+        (
+            "left out: table 'Basemap': its name is no name of a package, which has small letters, digits and _; "
+            "--table Basemap=basemap gives it one"
+        ),
         "left out: table 'photos': its key is fid, as GDAL and QGIS call it; --key fid takes it",
     ):
         assert line in told.splitlines(), f"{line!r} isn't told: {told}"
@@ -1305,7 +1317,10 @@ PLACES = [(1, "Spring", "@25832:500000.5/5600000.25 by the road", 3), (2, "Gate"
           (5, "Late", "seen @500100/5600100 by", 1), (6, "No", "@25832:1,5/2 @x/y a@1/2", 0),
           (2**53, "Far", "@25832:999999999.999999/-999999999.999999 \"x\"\nüß", 10**15)]  # fmt: skip
 SLIPS = (
-    "row 1 of spots, row 3 of spots, row 4 of spots, row 5 of spots, row 9007199254740992 of spots: its place is on no map",
+    (
+        "row 1 of spots, row 3 of spots, row 4 of spots, row 5 of spots, row 9007199254740992 of spots: its place is on"
+        " no map"
+    ),
     "row 6 of spots: a word of its note begins with @, and is no place",
 )
 
@@ -1477,7 +1492,8 @@ def check_lines_areas_and_tracks(folder):
         "lines_2": [["LINESTRING (1.5 2,3.000001 -4)", "7", "Well", "13"]],
         "lines_3": [["LINESTRING (9 50,9.5 50.25)", "7", "Well", "14"]],
         "areas": [["POLYGON ((500070 5600060,500350 5600060,500350 5600300.25,500070 5600060))", "7", "Well", "11"]],
-        "tracks": [["MULTILINESTRING ((9.000988108 50.552471971,9.004940766 50.554632485),(9 50.5,9.25 50.5))", "8", "Way, \"old\"", "12",
+        "tracks": [["MULTILINESTRING ((9.000988108 50.552471971,9.004940766 50.554632485),(9 50.5,9.25 50.5))",
+                   "8", "Way, \"old\"", "12",
                     "2026/06/15 12:00:00+00", "2026/06/15 12:04:00+00"]]}, "layers by GDAL")  # fmt: skip
     for layer, words in (
         ("lines", "ETRS89 / UTM zone 32N"),
@@ -1532,7 +1548,10 @@ SHAPES = {
 def check_places_of_a_plan(folder):
     """Places in the system without a definition, and behind spaces that aren't ASCII, go out and come in; what no place
     can be is named."""
-    layout = "table,spots,attributes,Spots\npyramid,plan,Plan,-1,0,0,64000000,64000000,two\nmatrix,plan,0,1,1,64,64,1000000,1000000\n"
+    layout = (
+        "table,spots,attributes,Spots\npyramid,plan,Plan,-1,0,0,64000000,64000000,two\n"
+        "matrix,plan,0,1,1,64,64,1000000,1000000\n"
+    )
     rows = [["row", "spots", 1, "Oak", "@-1:500.5/600.25 old", 0], ["row", "spots", 2, "Ash", "tall\u00a0@5/6", 0]]
     new_package(folder / "a.mmpkg", layout + "".join(map(record, rows)))
     _, told = tool("export_standard.py", folder / "a.mmpkg", folder / "out.gpkg", "--points", "spots")

@@ -464,9 +464,11 @@ def check_a_large_picture(folder):
         assert it["coarsest"] < 390, it
 
 
-LARGE = """<VRTDataset rasterXSize="100000" rasterYSize="100000"><SRS>{system}</SRS><GeoTransform>500000, 1, 0, 5700000, 0, -1</GeoTransform>
+LARGE = """<VRTDataset rasterXSize="100000" rasterYSize="100000"><SRS>{system}</SRS>
+  <GeoTransform>500000, 1, 0, 5700000, 0, -1</GeoTransform>
 <VRTRasterBand dataType="Byte" band="1"><SimpleSource><SourceFilename>{small}</SourceFilename><SourceBand>1</SourceBand>
-<SrcRect xOff="0" yOff="0" xSize="900" ySize="700"/><DstRect xOff="0" yOff="0" xSize="100000" ySize="100000"/></SimpleSource></VRTRasterBand></VRTDataset>"""
+<SrcRect xOff="0" yOff="0" xSize="900" ySize="700"/><DstRect xOff="0" yOff="0" xSize="100000" ySize="100000"/>
+</SimpleSource></VRTRasterBand></VRTDataset>"""
 
 
 if __name__ == "__main__":

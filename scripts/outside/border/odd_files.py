@@ -61,7 +61,8 @@ MATRICES = (
 )
 # By a file's name, the file that it is made of, and what SQLite does to that.
 CHANGED = {
-    "no_extent": ("ok", "UPDATE gpkg_contents SET min_x = NULL, min_y = NULL, max_x = NULL, max_y = NULL, srs_id = NULL"),
+    "no_extent": ("ok",
+                  "UPDATE gpkg_contents SET min_x = NULL, min_y = NULL, max_x = NULL, max_y = NULL, srs_id = NULL"),
     "no_extensions": ("ok", "DROP TABLE gpkg_extensions"),
     "no_geometry_columns": ("ok", "DROP TABLE gpkg_geometry_columns"),
     "no_systems": ("ok", "DROP TABLE gpkg_spatial_ref_sys"),
@@ -93,7 +94,8 @@ CHANGED = {
                   "INSERT INTO more (id, title, note) VALUES (1, 'a', 'b')", TABLE),
     "no_rowid": ("ok", "CREATE TABLE more (id INTEGER PRIMARY KEY, title, note, amount) WITHOUT ROWID",
                  "INSERT INTO more VALUES (1, 'a', 'b', 2)", TABLE),
-    "few_matrix_columns": ("map", "DROP TABLE gpkg_tile_matrix", "CREATE TABLE gpkg_tile_matrix (table_name, zoom_level)"),
+    "few_matrix_columns": ("map", "DROP TABLE gpkg_tile_matrix",
+                           "CREATE TABLE gpkg_tile_matrix (table_name, zoom_level)"),
     "no_matrix_sets": ("map", "DROP TABLE gpkg_tile_matrix_set"),
     "odd_extent": ("map", "UPDATE gpkg_tile_matrix_set SET min_x = 'x'"),
     "odd_matrices": ("map", "DROP TABLE gpkg_tile_matrix", MATRICES,

@@ -173,7 +173,8 @@ def check_a_list_that_moves(scene):
     listed = """const list = document.createElement('ul');
       list.id = 'outbox';
       list.innerHTML = '<li>one <button>Send</button></li><li>two <button>Change</button></li>';
-      document.body.replaceChildren(Object.assign(document.createElement('h2'), { id: 'waits', innerText: 'Waits' }), list);
+      document.body.replaceChildren(Object.assign(document.createElement('h2'),
+        { id: 'waits', innerText: 'Waits' }), list);
       list.addEventListener('click', it => it.target.closest('li').remove()); 0"""
     with scene.started() as browser:
         tab = Tab(browser, scene.site)

@@ -465,10 +465,14 @@ def check_nothing_elsewhere(scene):
         other.settimeout(2)
         there = f"http://127.0.0.1:{other.getsockname()[1]}"
         expect(page.value(f"fetch('{there}/a').then(() => 'had', () => 'kept')"), "kept", "a fetch of another address")
-        image = f"new Promise(done => {{ const it = new Image(); it.onload = it.onerror = event => done(event.type); it.src = '{there}/b'; }})"
+        image = (
+            "new Promise(done => { const it = new Image(); it.onload = it.onerror = event => done(event.type); it.src"
+            f" = '{there}/b'; }})"
+        )
         expect(page.value(image), "error", "an image of another address")
         page.value(
-            "document.body.append(Object.assign(document.createElement('script'), { textContent: 'window.foreign = true' }))"
+            "document.body.append(Object.assign(document.createElement('script'), { textContent: 'window.foreign ="
+            " true' }))"
         )
         expect(page.value("window.foreign ?? false"), False, "a script that isn't the page's own")
         with contextlib.suppress(TimeoutError):
@@ -603,7 +607,10 @@ def check_bounds_of_a_map(scene):
     mmpkg(
         "run",
         file,
-        given=b"table,map_bounds,attributes,Bounds of maps\nrow,map_bounds,1,corner,3200000000 3700000000 3300000000 3904000000,0\n",
+        given=(
+            b"table,map_bounds,attributes,Bounds of maps\nrow,map_bounds,1,corner,3200000000 3700000000 3300000000"
+            b" 3904000000,0\n"
+        ),
     )
     take_in(file, scene.folder / "bounded")
     with served(file) as address:
@@ -685,8 +692,10 @@ def check_tool_with_a_standing_table(scene):
     commands, told = take_in(file, scene.folder / "maps out", "--table", "maps")
     expect(
         told,
-        f"note: edition maps_2: is open; 'discard,maps_2' takes it back where it was for an earlier viewer\n"
-        f"note: {file}: has no matrix yet: make the viewer anew when it has\n",
+        (
+            "note: edition maps_2: is open; 'discard,maps_2' takes it back where it was for an earlier viewer\n"
+            f"note: {file}: has no matrix yet: make the viewer anew when it has\n"
+        ),
         "what is told",
     )
     expect((scene.folder / "maps out" / "layout.csv").read_text(), "edition,maps_3\n", "layout.csv")
@@ -764,8 +773,10 @@ def make_refused(folder):
     folder.mkdir()
     new_package(
         folder / "good.mmpkg",
-        "table,spots,attributes,Spots\ntable,photos,media,Photos\nmedia,photos,1,image/png,89504e47\n"
-        "relation,views,spots,photos,media\nedition,old\npublish,old\n",
+        (
+            "table,spots,attributes,Spots\ntable,photos,media,Photos\nmedia,photos,1,image/png,89504e47\n"
+            "relation,views,spots,photos,media\nedition,old\npublish,old\n"
+        ),
     )
     script = b"<x:script xmlns:x='http://www.w3.org/1999/xhtml'>stop()</x:script>".hex()
     new_package(folder / "foreign.mmpkg", "table,viewer,media,V\nmedia,viewer,9,text/html,3c\ntable,run,media,R\n"

@@ -140,7 +140,7 @@ async function save() {
   const table = form.fresh ? byId("into").value : form.table;
   if (form.photos.length && !photosOf(table)) return void (byId("told").textContent = NO_PHOTOS);
   const { act, fresh, saw, photos } = form, isSame = !act && !fresh && isSameRow(row, form.row);
-  const media = photos.map(({ id, bytes }) => ({ id, type: typeOfFile(bytes) ?? undefined }));
+  const media = photos.map(({ id, bytes }) => ({ id, type: typeInForm(bytes) ?? undefined }));
   const kept = isSame ? row : { ...row, note: signedNow(row.note) }, relation = photosOf(table);
   const made = actsOfForm({ table, row: kept, saw, isSame, photos: media, relation, number: act?.number });
   await keepAndClose(made, photos, photosIn(act));

@@ -2,7 +2,7 @@
 // file's type by its name alone, and what is kept of it in the outbox has none.
 
 import { numeral, phrase } from "./tongue.mjs";
-import { isSoundOfWebm } from "./webm.mjs";
+import { isSoundOfWebm, isWebm } from "./webm.mjs";
 
 const PDF = "application/pdf", HEAD_OF_TEXT = 4096, HEAD_OF_OGG = 36;
 /** The types of lines and areas, and of tracks. */
@@ -40,6 +40,14 @@ export function typeOfFile(file) {
   if (head.startsWith("ID3") || isFrame(bytes)) return "audio/mpeg";
   return typeOfText(lettersAt(bytes, 0, HEAD_OF_TEXT)) ?? typeOfStream(bytes);
 }
+
+/**
+ * The content type of what a form has taken; null where it isn't known. An older page took a WebM for sound where this
+ * one asks for more of its tracks: in a form it is sound still.
+ * @param {ArrayBuffer | null | undefined} bytes
+ */
+export const typeInForm = bytes =>
+  typeOfFile(bytes) ?? (isWebm(new Uint8Array(bytes ?? [])) ? "audio/webm" : null);
 
 /** @type {(text: string) => string | null} */
 const typeOfText = text => GEOJSON_BEGINS.test(text) ? GEOJSON : GPX_BEGINS.test(text) ? GPX : null;

@@ -67,7 +67,7 @@ async function photosThere(now) {
 }
 
 /** A photo's or a file's bytes, with their type where that is known. */
-const bodyOfBytes = bytes => new Blob([bytes ?? ""], { type: typeOfFile(bytes) ?? "" });
+const bodyOfBytes = bytes => new Blob([bytes ?? ""], { type: typeInForm(bytes) ?? "" });
 
 /** A picture of a form, made small once; null where it isn't to be had. */
 async function smallOf(now, key, load) {

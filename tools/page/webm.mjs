@@ -43,11 +43,17 @@ const textIn = (bytes, name) =>
   String.fromCharCode(...elementIn(bytes, name).subarray(0, MATROSKA.mostLetters)).replace(/\0+$/, "");
 
 /**
+ * Whether a file is a WebM, of whatever tracks.
+ * @param {Uint8Array} bytes
+ */
+export const isWebm = bytes => textIn(elementIn(bytes, MATROSKA.header), MATROSKA.kind) === "webm";
+
+/**
  * Whether a file is a WebM all of whose tracks are sound that a row takes.
  * @param {Uint8Array} bytes it, or its beginning with all of its tracks
  */
 export function isSoundOfWebm(bytes) {
-  if (textIn(elementIn(bytes, MATROSKA.header), MATROSKA.kind) !== "webm") return false;
+  if (!isWebm(bytes)) return false;
   const all = [...elementsIn(elementIn(elementIn(bytes, MATROSKA.segment), MATROSKA.tracks))];
   const tracks = all.filter(it => it.name === MATROSKA.track).map(it => it.body);
   return tracks.length > 0 && tracks.every(it =>

@@ -2,15 +2,26 @@
 
 /** Ends the day, behind what waits: the program closes the package, whose file alone holds all then. */
 async function endDay() {
+  const button = byId("end");
+  if (isHeld() || button.ariaBusy === "true") return;
+  button.ariaBusy = "true";
+  try {
+    await endBehindWaiting();
+  } finally {
+    button.ariaBusy = null;
+  }
+}
+
+/** Sends what waits, and then asks for the end; where nobody answers a day that was ended is so still. */
+async function endBehindWaiting() {
   let isStrange = false;
-  if (isHeld()) return;
   if (nextOf(outbox.waiting, KEY)) say("ended", phrase("What waits is sent first, and then the day ends."));
   await send();
   await navigator.locks.request(outbox.store.name, async () => {
     const response = await fetch(`${ROOT}end`, { method: "POST", redirect: "manual" }).catch(() => null);
     const text = await response?.text().catch(() => null);
     const told = response && { ...headOf(response), text };
-    endsDay(Boolean(told) && isEnd(told));
+    endsDay(told ? isEnd(told) : hasEnded());
     isStrange = Boolean(told) && !hasEnded() && !isNo(told);
   });
   say("ended", null);

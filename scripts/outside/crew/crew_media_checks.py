@@ -36,6 +36,19 @@ def tone():
     return made.getvalue()
 
 
+def element(name, body):
+    """An element of a WebM, with a size of two bytes."""
+    return name + struct.pack(">H", 0x4000 + len(body)) + body
+
+
+def webm(*codecs, packed):
+    """A WebM with tracks of a kind and codec, and what it packs."""
+    tracks = [element(b"\xae", element(b"\x83", kind) + element(b"\x86", codec)) for kind, codec in codecs]
+    head = element(b"\x1a\x45\xdf\xa3", element(b"\x42\x82", b"webm"))
+    body = element(b"\x16\x54\xae\x6b", b"".join(tracks)) + element(b"\x1f\x43\xb6\x75", element(b"\xa3", packed))
+    return head + element(b"\x18\x53\x80\x67", body)
+
+
 def small_pdf():
     """A PDF of one empty page."""
     parts = [
@@ -169,6 +182,38 @@ def check_a_recording(scene):
         kind = "audio/ogg" if "firefox" in scene.command else "audio/webm"
         expect([it for it, _ in there], [kind] * 2, "types")
         assert all(len(data) > 100 for _, data in there), [len(data) for _, data in there]
+
+
+def check_sound_with_any_letters(scene):
+    """Sound whose packed bytes have the letters of a picture's track is sound; and what an older page took into a form
+    as sound, subtitles beside it, is sound where it is saved."""
+    seat, crew = scene.begin()
+    opus, subtitles = (b"\x02", b"A_OPUS"), (b"\x11", b"S_TEXT/UTF8")
+    sound, older = webm(opus, packed=b"\x81\0\0\x80 V_VP8"), webm(opus, subtitles, packed=b"\x81")
+    file = scene.folder / "letters.webm"
+    file.write_bytes(sound)
+    crew.press("fresh")
+    crew.fill(title="Letters", photos=[file])
+    expect(crew.value(ITEMS)[0].split(", ")[0], "Sound", "what isn't saved yet")
+    file.write_bytes(older)
+    crew.page.choose_files("byId('pictures')", [file])
+    words = "letters.webm is no picture that this browser draws, no PDF, no sound and no line."
+    crew.page.wait(f"byId('told').innerText === {json.dumps(words)}")
+    crew.save()
+    crew.wait_until_it_stands()
+    crew.press("fresh")
+    crew.fill(title="Older", photos=[scene.photo])
+    bytes_of_older = f"Uint8Array.from({list(older)}).buffer"
+    photos = "outbox.store.transaction(`photos`, `readwrite`).objectStore(`photos`)"
+    crew.value(f"done({photos}.put({bytes_of_older}, form.photos[0].id)).then(() => 0)")
+    crew.reload()
+    crew.page.wait(TAKEN.format(1))
+    crew.save()
+    crew.wait_until_it_stands()
+    expect_quiet(crew)
+    for title, data in (("Letters", sound), ("Older", older)):
+        number, _ = by_title(rows_of(seat), title)
+        expect(list(photos_of(seat, number).values()), [["audio/webm", data]], f"the sound of {title}")
 
 
 def check_where_nothing_is_recorded(scene):

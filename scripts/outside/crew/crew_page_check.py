@@ -1320,7 +1320,12 @@ def check_the_end_of_the_day(scene):
     journal = pathlib.Path(f"{seat.file}-wal")
     assert not journal.exists() or journal.stat().st_size < 100, "the journal holds commits"
     crew.new(title="Behind the end")
-    expect(crew.text("state"), "the day is ended, without this: 1 to send", "what is said of a row behind the end")
+    without = "the day is ended, without this: 1 to send"
+    expect(crew.text("state"), without, "what is said of a row behind the end")
+    for _ in range(2):
+        crew.press("end")
+    crew.page.wait("byId('end').ariaBusy !== 'true'")
+    expect(crew.text("state"), without, "what is said of an end behind the end")
     seat.again()
     crew.wait_until_it_stands()
     expect(crew.text("messages"), "", "what is said where the package is open again")

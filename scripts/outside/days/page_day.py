@@ -359,6 +359,8 @@ class Day:
         was_open, was_ended = self.port.is_open, tab.state()[0].startswith(ENDED)
         tab.press("end")
         tab.press("end")
+        if not tab.within(lambda: not tab.is_ending(), 60):
+            raise Wrong(f"the end comes to nothing: the page says {tab.state()[0]!r}")
         if not was_ended and tab.within(lambda: tab.state()[0].startswith(ENDED), 2):
             program = self.port.seat.program
             if not was_open or not tab.within(lambda: program.poll() == 0, 60):

@@ -316,6 +316,10 @@ class Tab:
         choose = f"it.value = '{table}'; it.dispatchEvent(new Event('change', {{ bubbles: true }}));"
         self.page.value(f"(it => {{ {choose} }})({by('pyramids')}); 0")
 
+    def is_ending(self):
+        """Whether what waits is being sent, or the program asked, for the day's end."""
+        return self.page.value(f"{by('end')}.ariaBusy === 'true'")
+
     def has_form(self):
         return self.page.value(f"!{by('edit')}.hidden")
 

@@ -3,7 +3,9 @@
 import assert from "node:assert/strict";
 import { test } from "node:test";
 
-import { isPaper, isSound, nounOf, typeOfFile, whyTooLong, wordsOfSize } from "../../../tools/page/media.mjs";
+import {
+  isPaper, isSound, nounOf, typeInForm, typeOfFile, whyTooLong, wordsOfSize,
+} from "../../../tools/page/media.mjs";
 import { actsOfForm } from "../../../tools/page/records.mjs";
 
 const bytesOf = text => Uint8Array.from([...text].map(it => it.charCodeAt(0))).buffer;
@@ -47,6 +49,14 @@ test("a file is what its bytes say", () => {
   for (const [text, type] of FILES) assert.equal(typeOfFile(bytesOf(text)), type, JSON.stringify(text));
   for (const text of OTHERS) assert.equal(typeOfFile(bytesOf(text)), null, JSON.stringify(text));
   for (const none of [null, undefined]) assert.equal(typeOfFile(none), null);
+});
+
+test("a form keeps as sound what it has taken as sound", () => {
+  for (const [text, type] of FILES) assert.equal(typeInForm(bytesOf(text)), type, JSON.stringify(text));
+  const subtitled = bytesOf(webm([OPUS, ["\x11", "S_TEXT/UTF8"]]));
+  assert.deepEqual([typeOfFile(subtitled), typeInForm(subtitled)], [null, "audio/webm"]);
+  assert.deepEqual(["\x89PNG\r\n\x1a\n", "", webm([OPUS], "", "matroska")].map(it => typeInForm(bytesOf(it))),
+    [null, null, null]);
 });
 
 test("which files are no pictures", () => {

@@ -534,6 +534,9 @@ class Day:
             if tab.has_page():
                 tab.page.fill_storage(False)
             self.do_reload(self.tabs.index(tab), 0)
+            if not self.port.is_open:  # an end that a browser had asked for as it was killed has come meanwhile
+                self.port.start()
+                self.do_reload(self.tabs.index(tab), 0)
             if not tab.has_page():
                 raise Wrong(f"the page doesn't come: {tab.page.value('document.body.innerText')[:300]!r}")
             if not tab.within(tab.is_settled, SETTLE_SECONDS):

@@ -12,7 +12,7 @@ use Rattle.mm_store.specs.Kept.{Kept, tile_id, tile_with, medium_id, medium_with
 use Rattle.mm_store.specs.Stands.{ReadsAs}
 use Rattle.mm_store.specs.Seen.{IsSeenAs}
 use Rattle.mm_blobs.proofs.Naming.{entry_of}
-use Rattle.mm_limits.specs.Longest.{AreFew}
+use Rattle.mm_column_limits.specs.Longest.{AreFew}
 use Rattle.mm_check.specs.Form.{KeepsAs, AreShort}
 
 some_bytes : (bytes : List ℕ) → bytes ≢ [] → 1 ≤ length bytes

@@ -8,7 +8,7 @@ use Rattle.mm_definitions.specs.declared.answers.Open.TheVariants as opens
 use Rattle.mm_store.specs.Seen.{IsSeenAs}
 use Rattle.mm_store.specs.Stands.{IsSettled}
 use Rattle.mm_store.proofs.Quiet.{quiet_then}
-use Rattle.mm_limits.specs.Longest.{AreFew}
+use Rattle.mm_column_limits.specs.Longest.{AreFew}
 use Rattle.mm_check.specs.Checked.{IsChecked}
 use Rattle.mm_check.specs.Form.{AreInForm, IsFormCheck, TellsLongest}
 use Rattle.mm_check.specs.Verdict.{IsVerifiedWhere}

@@ -7,10 +7,9 @@
 //! - `whole`: `check_whole`, the one and then the other.
 #![tactic(auto)]
 
-pub mod form;
-pub mod verdict;
+mod form;
+mod verdict;
 mod whole;
 
-pub use form::blobs_stand;
 pub use verdict::verify;
 pub use whole::check_whole;

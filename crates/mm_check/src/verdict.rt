@@ -5,11 +5,11 @@ ghost use Rattle.sqlite.specs.Held.{state};
 ghost use Rattle.mm_walk.specs.Check.{IsCheck};
 ghost use Rattle.mm_definitions.specs.Units.{profile_of};
 ghost use Rattle.mm_check.specs.Verdict.{rule, Before, IsVerified, IsVerifiedWhere};
-ghost use Rattle.mm_limits.specs.Longest.{AreFew};
+ghost use Rattle.mm_column_limits.specs.Longest.{AreFew};
 
 use mm_definitions::answers::{Fault, RuleNumber};
 use mm_definitions::units::Unit;
-use mm_limits::{editions, limits};
+use mm_column_limits::{editions, limits};
 use mm_rules::{contents, extensions, items, matrices, systems, tiles};
 use sqlite::{Alter, Connection};
 

@@ -4,7 +4,7 @@ use csv::{ByteRecord, ReaderBuilder, StringRecord};
 use mm_definitions::limits::{MOST_MEDIA_BYTES, MOST_TILE_BYTES};
 use mm_definitions::refusals::{NO_FILE, OUT_OF_LIMITS};
 use mm_kit::{FileName, MOST_LIST_BYTES};
-use mm_words::{is_piece_with_file, remark_on_piece};
+use mm_remarks::{is_piece_with_file, remark_on_piece};
 use std::io::Read;
 use std::{fs, io};
 

@@ -1,7 +1,7 @@
 //! The records that were read and are not answered yet, for the words about their fields.
 
 use csv::{ByteRecord, Reader, ReaderBuilder, StringRecord};
-use mm_words::{Hears, Opening, remark_on};
+use mm_remarks::{Hears, Opening, remark_on};
 use std::alloc::Global;
 use std::cell::Cell;
 use std::io::Read;

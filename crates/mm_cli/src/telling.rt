@@ -8,7 +8,7 @@ use mm_arguments::{Aids, Request, read_arguments};
 use mm_definitions::ends::UntilEnd;
 use mm_definitions::streams::Io;
 use mm_program::program;
-use mm_words::{Heard, Opening, Progress, Size, Told, Watched, Watches, meaning_of, told_of};
+use mm_remarks::{Heard, Opening, Progress, Size, Told, Watched, Watches, meaning_of, told_of};
 use std::fmt::{Display, Formatter};
 use std::io::{BufReader, IsTerminal};
 use std::{fmt, io};

@@ -3,8 +3,8 @@ use Rattle.std.specs.Prelude.{ℕ, Option, Some, None}
 use Rattle.mm_definitions.specs.Keys.{Text}
 use Rattle.mm_definitions.specs.Streams.{Written}
 use Rattle.mm_work.specs.Told.{IsTold}
-use Rattle.mm_words.specs.Words.{text_of}
-use Rattle.mm_words.specs.declared.explaining.TheConstants.{UNKNOWN}
+use Rattle.mm_remarks.specs.Words.{text_of}
+use Rattle.mm_remarks.specs.declared.explaining.TheConstants.{UNKNOWN}
 
 -- a text with status 0; or that there is none, as of wrong words
 abbrev pub TellsText : Option Text → Written → Written → ℕ → Type 0

@@ -7,7 +7,7 @@ ghost use Rattle.mm_work.specs.Told.{TellsFailure};
 ghost use Rattle.mm_program.specs.Explained.{TellsExplained};
 
 use mm_definitions::streams::Io;
-use mm_words::{UNKNOWN, explanation_of};
+use mm_remarks::{UNKNOWN, explanation_of};
 use mm_work::{DONE, USAGE, tell_bytes};
 use std::io::Write;
 

@@ -19,7 +19,7 @@ use mm_definitions::names::Name;
 use mm_definitions::streams::Io;
 use mm_files::{Left, Works};
 use mm_kit::{Folder, FolderFault, Found};
-use mm_words::Pieces;
+use mm_remarks::Pieces;
 use mm_work::{Import, REFUSED, Stop, import_package, tell_bytes, tell_import, tell_stop};
 use sqlite::{Alter, Connection, FileFrom, Start};
 use sqlite_disk::Disk;

@@ -1,5 +1,5 @@
 //! Rules 1 to 14 decided on a database, each by a function of its own: a walk over the rows of a query, with what a row
-//! needs from another table beside it. `mm_limits` has the rules 15 and 16.
+//! needs from another table beside it. `mm_column_limits` has the rules 15 and 16.
 //!
 //! - `systems`: rule 1.
 //! - `contents`: rules 2 to 6, of contents, kinds and matrix sets.

@@ -46,6 +46,15 @@ EachMatch db terms (first from test order shown more) env P = AllByRecursion P (
 abbrev pub AllShown : Trees → Row → Join → List Term → List Term → (Row → Type 0) → Type 0
 AllShown db params from terms project good = EachMatch (overlay db []) terms from (params ∷ []) (λ env. good (eval_all project env))
 
+-- what a test tells of a row
+abbrev pub Tells : (Row → Type 0) → Row → Result Bool Fault → Type 0
+Tells good row result = (b : Bool) × (result ≡ Ok b) × (IsTrue b ↔ good row)
+
+-- what a test tells of a row that it notes where it is good; what it noted of others stays
+abbrev pub Notes : {T : Type 0} → (Row → Type 0) → (T → Row → Type 0) → T → T → Row → Result Bool Fault → Type 0
+Notes good noted old new row result = (b : Bool) × (result ≡ Ok b) × (IsTrue b ↔ good row)
+    × (IsTrue b → noted new row) × ((other : Row) → noted old other → noted new other)
+
 -- It commits nothing, and tells whether each row is good.
 pub record TellsAll (sql : List ℕ) (params : Row) (good : Row → Type 0) (old new : State) (result : Result Bool Fault) : Type 0 where
   pub mode : old.in_transaction ≡ false → new.in_transaction ≡ false

@@ -1,10 +1,10 @@
 //! Whether each row of a query passes a test, and what such a test notes of them.
 
-ghost use Rattle.std.specs.Prelude.{◌≡◌, ◌↔◌, Ok, Bool, IsTrue};
+ghost use Rattle.std.specs.Prelude.{◌≡◌, ◌↔◌, IsTrue};
 ghost use Rattle.sqlite.specs.Order.{Row as Values};
 ghost use Rattle.sqlite.specs.Held.{state};
 ghost use Rattle.sqlite.specs.Values.{bound};
-ghost use Rattle.mm_walk.specs.RowTests.{TellsAll, NotesAll};
+ghost use Rattle.mm_walk.specs.RowTests.{TellsAll, NotesAll, Tells, Notes};
 
 use crate::walk::{Visitor, walk};
 use mm_definitions::answers::Fault;
@@ -27,7 +27,7 @@ struct Passing<'a, T> {
 }
 
 impl<'a, T: RowTest> Visitor for Passing<'a, T> {
-    ghost takes = { λ old row new result. (new ≡ old) × ((b : Bool) × (result ≡ Ok b) × (IsTrue b ↔ T.good old.test.now row)) };
+    ghost takes = { λ old row new result. (new ≡ old) × Tells (T.good old.test.now) row result };
 
     fn take(&mut self, row: &Row) -> Result<bool, Fault> {
         Ok(self.test.passes(row))
@@ -70,7 +70,7 @@ struct Noting<T> {
 }
 
 impl<T: NotingTest> Visitor for Noting<T> {
-    ghost takes = { λ old row new result. (b : Bool) × (result ≡ Ok b) × (IsTrue b ↔ T.good row) × (IsTrue b → T.noted new.inner row) × ((other : Values) → T.noted old.inner other → T.noted new.inner other) };
+    ghost takes = { λ old row new result. Notes T.good T.noted old.inner new.inner row result };
 
     fn take(&mut self, row: &Row) -> Result<bool, Fault> {
         Ok(self.inner.passes(row))

@@ -21,7 +21,7 @@ PLACES = {
     r"\bfs\b(?:::\w+)*": {
         "mm_program/src/files.rt": {"fs", "fs::metadata"},
         "mm_program/src/kits.rt": {"fs", "fs::File", "fs::File::open"},
-        "mm_words/src/progress.rt": {"fs", "fs::metadata"},
+        "mm_remarks/src/progress.rt": {"fs", "fs::metadata"},
         "mm_cli/src/kits.rt": {"fs", "fs::metadata", "fs::File::open"},
         "mm_cli/src/records.rt": {"fs", "fs::metadata"},
     },

@@ -2,7 +2,7 @@ use Rattle.std.proofs.Common.{◌≡◌, ◌≤◌, Ok, Err, refl, arith}
 use Rattle.std.proofs.lemmas.Result.{err_from_is_err_and}
 use Rattle.sqlite.specs.Held.{state}
 use Rattle.mm_definitions.specs.Units.{profile_of}
-use Rattle.mm_limits.specs.Longest.{AreFew}
+use Rattle.mm_column_limits.specs.Longest.{AreFew}
 use Rattle.mm_check.proofs.Verdicts.{limits_pass, limits_stop, limits_fail, rule_passes, rule_stops, rule_fails, all_pass}
 use Rattle.mm_check.proofs.verdict.verify_known.Goals as goal
 

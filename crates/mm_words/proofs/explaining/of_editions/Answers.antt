@@ -1,8 +1,0 @@
-use Rattle.std.proofs.Common.{rules, arith}
-use Rattle.std.proofs.lemmas.Grind.{common_steps}
-use Rattle.mm_words.specs.Words.{of_editions}
-use Rattle.mm_words.proofs.explaining.of_editions.Goals as goal
-
-pub returns : goal.returns
-unfolding of_editions
-returns c = first_of (search rules, grind (arith, common_steps))

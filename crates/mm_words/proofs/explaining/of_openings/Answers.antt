@@ -1,8 +1,0 @@
-use Rattle.std.proofs.Common.{rules, arith}
-use Rattle.std.proofs.lemmas.Grind.{common_steps}
-use Rattle.mm_words.specs.Words.{of_openings}
-use Rattle.mm_words.proofs.explaining.of_openings.Goals as goal
-
-pub returns : goal.returns
-unfolding of_openings
-returns c = first_of (search rules, grind (arith, common_steps))

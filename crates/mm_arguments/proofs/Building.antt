@@ -1,7 +1,8 @@
 -- The command line is the one that its definition names.
 use Rattle.std.proofs.Common.{◌≡◌, ◌∙◌, ◌||◌, true, refl, ap, ap₂}
 use Rattle.clap.specs.Simple.{app_of, app_of_fields}
-use Rattle.clap.specs.Words.{AddsArg, AddsSubcommand, App, Rule, is_simple, is_simple_and_free, with_rule, with_subcommand}
+use Rattle.clap.specs.Words.{AddsArg, AddsSubcommand, App, Rule, is_simple, is_simple_and_free, with_rule}
+use Rattle.clap.specs.Words.{with_subcommand}
 use Rattle.clap.specs.declared.builder.arg.Arg.{Arg}
 use Rattle.clap.specs.declared.builder.command.Command.{Command}
 use Rattle.clap.specs.declared.builder.command.Command.TheOpen.{Command-F}
@@ -24,7 +25,8 @@ adds old sub c s new old_is sub_is added = (
   added.globals ∙ ap₂ (λ x y. x || y) old_is.1 sub_is.1,
 )
 
-pub takes : (app : App) (rule : Rule) (c new : Command) (a : Arg) → IsCommand app c → IsArgument rule a → AddsArg c a new
+pub takes : (app : App) (rule : Rule) (c new : Command) (a : Arg) → IsCommand app c → IsArgument rule a
+    → AddsArg c a new
     → IsCommand (with_rule app rule) new
 takes app rule c new a is a_is added = (
   added.shape a_is.1 ∙ ap₂ with_rule is.0 a_is.0,

@@ -138,7 +138,8 @@ with_looks = with_subcommand (with_subcommand (with_subcommand with_changes chec
 -- the program with its ten subcommands
 abbrev pub command_line : App
 command_line =
-    with_subcommand (with_subcommand (with_subcommand (with_subcommand with_looks serve.top) desk.top) migrate.top) explain.top
+    with_subcommand (with_subcommand (with_subcommand (with_subcommand with_looks serve.top) desk.top) migrate.top)
+    explain.top
 
 -- ---- the values that are made of it
 

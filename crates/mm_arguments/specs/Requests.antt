@@ -2,14 +2,16 @@
 use Rattle.std.specs.Prelude.{◌≡◌, ◌≤◌, ◌-◌, ⊤, ℕ, ℤ, Bool, true, false}
 use Rattle.std.specs.Prelude.{List, Option, Some, None, IfSome, codes, length, pos, slice_get}
 use Rattle.std.specs.Borrow.{Bor}
-use Rattle.std.specs.Str.Parse.{IsNumeral, digits_value, signed_digits_value, without_leading_plus, without_leading_sign}
+use Rattle.std.specs.Str.Parse.{IsNumeral, digits_value, signed_digits_value, without_leading_plus}
+use Rattle.std.specs.Str.Parse.{without_leading_sign}
 use Rattle.clap.specs.Words.{Row, Text, all_of, first_of, one_of, subcommand_of}
 use Rattle.clap.specs.declared.error.kind.ErrorKind.{ErrorKind}
 use Rattle.clap.specs.declared.error.kind.ErrorKind.TheVariants as kind
 use Rattle.mm_definitions.specs.Bounds.{IsId}
 use Rattle.mm_arguments.specs.CommandLine.{command_line}
 use Rattle.mm_arguments.specs.declared.requests.Request.{Request}
-use Rattle.mm_arguments.specs.declared.requests.Request.TheVariants.{Init, Run, Kit, Check, List as Tables, Show, Serve, Desk, Migrate, Explain}
+use Rattle.mm_arguments.specs.declared.requests.Request.TheVariants.{Init, Run, Kit, Check, List as Tables, Show, Serve}
+use Rattle.mm_arguments.specs.declared.requests.Request.TheVariants.{Desk, Migrate, Explain}
 use Rattle.mm_arguments.specs.declared.requests.Aids.{Aids}
 
 -- a port is at least 1, and so many connections are served: 1 to 1,000,000; the number of a row is one
@@ -34,7 +36,8 @@ module _ (rows : List Row) where
 
   -- the last of the words of this argument
   abbrev pub IsLastWord : Text → Bor Text → Type 0
-  IsLastWord id word = (texts : List Text) × (all_of id rows ≡ Some texts) × (slice_get texts (length texts - 1) ≡ Some word.now)
+  IsLastWord id word = (texts : List Text) × (all_of id rows ≡ Some texts)
+      × (slice_get texts (length texts - 1) ≡ Some word.now)
 
   -- whether this flag stands
   abbrev pub IsFlag : Text → Bool → Type 0
@@ -82,7 +85,8 @@ AsksFor name rows (Desk file port count page) = (name ≡ codes "desk") × IsGiv
 
 -- the words ask for this: of what `clap` reads of them on the command line
 abbrev pub WordsAsk : List Text → Request → Type 0
-WordsAsk words request = (name : Text) × (rows : List Row) × (subcommand_of command_line words ≡ Some (name, rows)) × AsksFor name rows request
+WordsAsk words request = (name : Text) × (rows : List Row) × (subcommand_of command_line words ≡ Some (name, rows))
+    × AsksFor name rows request
 
 -- the words want this told on standard error: of what `clap` reads of them on the command line
 abbrev pub Wants : List Text → Aids → Type 0

@@ -15,10 +15,12 @@ below x h = grind (h, arith, nat_tests)
 
 all_ascii : (xs : List ℕ) → list_all (λ x. nat_lt x 128) xs ≡ true → IsAscii xs
 all_ascii [] h = IsAscii-nil
-all_ascii (x ∷ xs) h = let p = and_parts (nat_lt x 128) (list_all (λ x. nat_lt x 128) xs) h in IsAscii-cons x xs (below x p.0) (all_ascii xs p.1)
+all_ascii (x ∷ xs) h = let p = and_parts (nat_lt x 128) (list_all (λ x. nat_lt x 128) xs) h in IsAscii-cons x xs
+    (below x p.0) (all_ascii xs p.1)
 
 digits_are : IsAscii lower_digits
 digits_are = all_ascii lower_digits refl
 
 pub digest_is_text : (bytes text : List ℕ) → text ≡ digest_of bytes → IsUtf8 text
-digest_is_text bytes text is = subst IsUtf8 (sym is) (IsUtf8-from_ascii (digest_of bytes) (IsAscii-encode_with lower_digits (sha256 bytes) digits_are))
+digest_is_text bytes text is = subst IsUtf8 (sym is)
+    (IsUtf8-from_ascii (digest_of bytes) (IsAscii-encode_with lower_digits (sha256 bytes) digits_are))

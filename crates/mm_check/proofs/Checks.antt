@@ -1,5 +1,6 @@
 -- A check of the form by a walk, and checks one after another.
-use Rattle.std.proofs.Common.{◌≡◌, ◌↔◌, ℕ, List, [], Bool, true, false, IsTrue, Option, Some, None, Result, Ok, Err, IfOk}
+use Rattle.std.proofs.Common.{◌≡◌, ◌↔◌, ℕ, List, [], Bool, true, false, IsTrue, Option, Some, None, Result, Ok, Err}
+use Rattle.std.proofs.Common.{IfOk}
 use Rattle.std.proofs.Common.{OnOk, refl, sym, subst, ◌∙◌, arith}
 use Rattle.sql_forms.specs.Key.{Key}
 use Rattle.sqlite.specs.Order.{Row}
@@ -19,7 +20,8 @@ use Rattle.mm_check.specs.Form.{AreShort, KeepsAs, IsFormCheck, TellsLongest}
 
 -- what is shown says the form
 abbrev pub SaysForm : Row → Join → List Term → List Term → (Row → Type 0) → (Kept → Type 0) → Type 0
-SaysForm params from terms project good Form = (db : Database) (kept : Kept) → KeepsAs db kept → AllShown db.trees params from terms project good ↔ Form kept
+SaysForm params from terms project good Form = (db : Database) (kept : Kept) → KeepsAs db kept
+    → AllShown db.trees params from terms project good ↔ Form kept
 
 module _ (sql : List ℕ) (good : Row → Type 0) (from : Join) (terms project : List Term) (order : List (Term × Key))
     (names : List (List ℕ)) (it : IsQuery schema sql from terms project order names) (quiet : IsQuiet sql)
@@ -34,7 +36,8 @@ module _ (sql : List ℕ) (good : Row → Type 0) (from : Join) (terms project :
       let r = says old.now kept at in
       (λ e. r.0 (t.0 e), λ form. t.1 (r.1 form))
 
-  still : (result : Result Bool Fault) → OnOk result (IsUnchanged old new) → OnOk result (IsTrue old.is_open × IsTrue new.is_open × (new.now ≡ old.now))
+  still : (result : Result Bool Fault) → OnOk result (IsUnchanged old new)
+      → OnOk result (IsTrue old.is_open × IsTrue new.is_open × (new.now ≡ old.now))
   still (Ok b) same = (same.0.was_open, same.0.is_open, same.0.now_is)
   still (Err fault) same = tt
 
@@ -46,13 +49,15 @@ module _ (sql : List ℕ) (good : Row → Type 0) (from : Join) (terms project :
         survives = h.survives asks;
         same = λ clean. still result (h.same clean asks);
         seen = λ clean profile p. seen_still profile old new p (h.rests clean asks);
-        settled = λ clean profile p. settled_still profile old new p (h.survives asks) clean (seen_still profile old new p (h.rests clean asks));
+        settled = λ clean profile p. settled_still profile old new p (h.survives asks) clean
+            (seen_still profile old new p (h.rests clean asks));
         says = told result h;
         faults = h.faults;
       }
 
   -- the parameters as the call gives them
-  pub forms : (given : Row) → given ≡ [] → (result : Result Bool Fault) → TellsAll sql given good old new result → IsFormCheck old new Form result
+  pub forms : (given : Row) → given ≡ [] → (result : Result Bool Fault) → TellsAll sql given good old new result
+      → IsFormCheck old new Form result
   forms given same result h = formed result (subst (λ p. TellsAll sql p good old new result) same h)
 
 -- a check that notes how long the longest is of what is shown
@@ -91,18 +96,23 @@ module _ {T : Type 0} (sql : List ℕ) (good : Row → Type 0) (noted : T → Ro
 
 -- ---- one after another
 
-pub as_told : (old new : State) (Form : Kept → Type 0) (r : Result Bool Fault) (b told : Bool) → r ≡ Ok b → b ≡ told → IsFormCheck old new Form r
+pub as_told : (old new : State) (Form : Kept → Type 0) (r : Result Bool Fault) (b told : Bool) → r ≡ Ok b → b ≡ told
+    → IsFormCheck old new Form r
     → IsFormCheck old new Form (Ok told)
-as_told old new Form r b told is same h = subst (λ x. IsFormCheck old new Form (Ok x)) same (subst (IsFormCheck old new Form) is h)
+as_told old new Form r b told is same h = subst (λ x. IsFormCheck old new Form (Ok x)) same
+    (subst (IsFormCheck old new Form) is h)
 
 module _ (old mid new : State) (A B C : Kept → Type 0) (alike : (kept : Kept) → (A kept × B kept) ↔ C kept) where
-  then_form : IsFormCheck old mid A (Ok true) → (s : Result Bool Fault) → IsFormCheck mid new B s → IsFormCheck old new C s
+  then_form : IsFormCheck old mid A (Ok true) → (s : Result Bool Fault) → IsFormCheck mid new B s
+      → IsFormCheck old new C s
   then_form one (Ok b) two = record {
     mode = λ idle. two.mode (one.mode idle);
     survives = quiet_then old mid new one.survives two.survives;
-    same = λ clean. let first = one.same (omega (arith, two.survives.clean)) in let second = two.same clean in (first.0, second.1, second.2 ∙ first.2);
+    same = λ clean. let first = one.same (omega (arith, two.survives.clean)) in let second =
+        two.same clean in (first.0, second.1, second.2 ∙ first.2);
     seen = λ clean profile p s. two.seen clean profile p (one.seen (omega (arith, two.survives.clean)) profile p s);
-    settled = λ clean profile p s. two.settled clean profile p (one.settled (omega (arith, two.survives.clean)) profile p s);
+    settled = λ clean profile p s. two.settled clean profile p
+        (one.settled (omega (arith, two.survives.clean)) profile p s);
     says = λ clean kept keeps.
         let early : HasCleanDisk mid = omega (arith, two.survives.clean) in
         let first = one.same early in
@@ -116,17 +126,20 @@ module _ (old mid new : State) (A B C : Kept → Type 0) (alike : (kept : Kept) 
     survives = quiet_then old mid new one.survives two.survives;
     same = λ clean. tt;
     seen = λ clean profile p s. two.seen clean profile p (one.seen (omega (arith, two.survives.clean)) profile p s);
-    settled = λ clean profile p s. two.settled clean profile p (one.settled (omega (arith, two.survives.clean)) profile p s);
+    settled = λ clean profile p s. two.settled clean profile p
+        (one.settled (omega (arith, two.survives.clean)) profile p s);
     says = λ clean kept keeps. tt;
     faults = two.faults;
   }
 
   -- the first holds, and the second decides
-  pub goes_on : (r s : Result Bool Fault) {b : Bool} → r ≡ Ok b → b ≡ true → IsFormCheck old mid A r → IsFormCheck mid new B s → IsFormCheck old new C s
+  pub goes_on : (r s : Result Bool Fault) {b : Bool} → r ≡ Ok b → b ≡ true → IsFormCheck old mid A r
+      → IsFormCheck mid new B s → IsFormCheck old new C s
   goes_on r s {b} is held one two = then_form (as_told old mid A r b true is held one) s two
 
 module _ (old new : State) (A B C : Kept → Type 0) (alike : (kept : Kept) → (A kept × B kept) ↔ C kept) where
-  pub stops : (r : Result Bool Fault) {b : Bool} → r ≡ Ok b → b ≡ false → IsFormCheck old new A r → IsFormCheck old new C (Ok false)
+  pub stops : (r : Result Bool Fault) {b : Bool} → r ≡ Ok b → b ≡ false → IsFormCheck old new A r
+      → IsFormCheck old new C (Ok false)
   stops r {b} is fails one =
       let h = as_told old new A r b false is fails one in
       record {
@@ -135,11 +148,13 @@ module _ (old new : State) (A B C : Kept → Type 0) (alike : (kept : Kept) → 
         same = h.same;
         seen = h.seen;
         settled = h.settled;
-        says = λ clean kept keeps. let t = h.says clean kept keeps in (λ e. absurd (let f : false ≡ true = e in cc), λ c. t.1 ((alike kept).1 c).0);
+        says = λ clean kept keeps. let t = h.says clean kept keeps in
+            (λ e. absurd (let f : false ≡ true = e in cc), λ c. t.1 ((alike kept).1 c).0);
         faults = h.faults;
       }
 
-pub gives_up : (old new : State) (A C : Kept → Type 0) (r : Result Bool Fault) (fault : Fault) → r ≡ Err fault → IsFormCheck old new A r
+pub gives_up : (old new : State) (A C : Kept → Type 0) (r : Result Bool Fault) (fault : Fault) → r ≡ Err fault
+    → IsFormCheck old new A r
     → IsFormCheck old new C (Err fault)
 gives_up old new A C r fault is one = let h = subst (IsFormCheck old new A) is one in
     record {

@@ -56,7 +56,11 @@ abbrev pub by_tiles : Join
 by_tiles = counted 1 (inner 15 end) (equals 2 5 1 0 ∷ []) by_media
 
 pub named : IsQuery schema unnamed_blobs (inner 27 by_tiles) no_names (col 1 0 ∷ []) [] (codes "id" ∷ [])
-named = record { compiled = statement.unnamed_blobs.compiled; plain = statement.unnamed_blobs.plain; unlisted = statement.unnamed_blobs.unlisted }
+named = record {
+  compiled = statement.unnamed_blobs.compiled;
+  plain = statement.unnamed_blobs.plain;
+  unlisted = statement.unnamed_blobs.unlisted;
+}
 
 pub quiet_named : IsQuiet unnamed_blobs
 unfolding everything

@@ -8,9 +8,11 @@ use Rattle.mm_definitions.specs.declared.answers.Open.{Open}
 use Rattle.mm_definitions.specs.declared.answers.Open.TheVariants as opens
 use Rattle.mm_store.specs.Kept.{Kept}
 use Rattle.mm_store.specs.Stands.{ReadsAs}
-use Rattle.mm_check.specs.Form.{KeepsAs, AreInForm, ReadsLoosely, IsFormCheck, DecidesReading, BlobsStand, BlobsFail, TellsForm}
+use Rattle.mm_check.specs.Form.{KeepsAs, AreInForm, ReadsLoosely, IsFormCheck, DecidesReading, BlobsStand, BlobsFail}
+use Rattle.mm_check.specs.Form.{TellsForm}
 
-formed_reads : (version : ℤ) (db : Database) (kept : Kept) (p : Package) → ReadsLoosely version db kept p → AreInForm kept → ReadsAs version db p
+formed_reads : (version : ℤ) (db : Database) (kept : Kept) (p : Package) → ReadsLoosely version db kept p
+    → AreInForm kept → ReadsAs version db p
 formed_reads version db kept p l form =
     let h = l.holds in
     record {
@@ -50,20 +52,26 @@ not_spared : {A : Type 0} → A ⊎ (◌≡◌ {A = Bool} false true) → A
 not_spared (inl a) = a
 not_spared (inr e) = absurd (let f : false ≡ true = e in cc)
 
-pub reads_formed : (version : ℤ) (db : Database) (p : Package) → ReadsAs version db p → (kept : Kept) × KeepsAs db kept × AreInForm kept
+pub reads_formed : (version : ℤ) (db : Database) (p : Package) → ReadsAs version db p → (kept : Kept) × KeepsAs db kept
+    × AreInForm kept
 reads_formed version db p r =
     let h = r.stands.holds in
-    let k = h.keeps in
-    (h.kept, record { schema_is = r.schema_is; tiles = k.tiles; media = k.media; pieces = k.pieces; blobs = k.blobs }, (k.are, λ id b is. not_spared (k.named id b is)))
+    let k = h.keeps in (
+      h.kept,
+      record { schema_is = r.schema_is; tiles = k.tiles; media = k.media; pieces = k.pieces; blobs = k.blobs },
+      (k.are, λ id b is. not_spared (k.named id b is)),
+    )
 
-pub decided : (old new : State) (result : Result Bool Fault) → IsFormCheck old new AreInForm result → HasCleanDisk new → DecidesReading old new result
+pub decided : (old new : State) (result : Result Bool Fault) → IsFormCheck old new AreInForm result → HasCleanDisk new
+    → DecidesReading old new result
 decided old new (Err fault) h clean version kept p loosely = tt
 decided old new (Ok b) h clean version kept p loosely =
     let same = h.same clean in
     let reads = loosely same.0 in
     let t = h.says clean kept (λ up. (loosely up).keeps) in (
       λ e. subst (λ db. ReadsAs version db p) (sym same.2) (formed_reads version old.now kept p reads (t.0 e)),
-      λ after. let k = reads_formed version old.now p (subst (λ db. ReadsAs version db p) same.2 after) in (h.says clean k.0 (λ up. k.1)).1 k.2,
+      λ after. let k = reads_formed version old.now p (subst (λ db. ReadsAs version db p) same.2 after) in
+          (h.says clean k.0 (λ up. k.1)).1 k.2,
     )
 
 -- ---- what is told of the form by one that was asked for
@@ -95,5 +103,6 @@ module _ (old new : State) (same : IsUnchanged old new) where
   told_as_before (Err (opens.Fault fault)) it = tt
 
 -- the form never fails of a database that reads as a package
-pub formed_for : (version : ℤ) (s : State) (p : Package) → (IsTrue s.is_open → ReadsAs version s.now p) → BlobsFail s → IsTrue s.is_open → ⊥
+pub formed_for : (version : ℤ) (s : State) (p : Package) → (IsTrue s.is_open → ReadsAs version s.now p) → BlobsFail s
+    → IsTrue s.is_open → ⊥
 formed_for version s p reads fails up = let it = reads_formed version s.now p (reads up) in fails it.0 (λ _. it.1) it.2

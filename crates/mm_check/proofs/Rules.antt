@@ -1,6 +1,7 @@
 -- What the queries of the form show.
 use Rattle.std.proofs.Common.{◌≡◌, ◌↔◌, ◌⊎◌, inl, inr, ℕ, suc, ℤ, pos, Bool, true, false, not, ◌&&◌, ◌||◌}
-use Rattle.std.proofs.Common.{List, [], ◌∷◌, length, filter, if◌then◌else◌, Option, Some, None, refl, sym, ap, subst, ◌∙◌, arith}
+use Rattle.std.proofs.Common.{List, [], ◌∷◌, length, filter, if◌then◌else◌, Option, Some, None, refl, sym, ap, subst}
+use Rattle.std.proofs.Common.{◌∙◌, arith}
 use Rattle.std.specs.Prelude.{◌<ℤ◌, min}
 use Rattle.std.specs.declared.cmp.Ordering.{Ordering}
 use Rattle.std.specs.declared.cmp.Ordering.TheVariants.{Less, Equal, Greater}
@@ -71,11 +72,16 @@ AreAlike (Some v) (Some w) = w.bytes ≡ v.bytes
 
 alike_is : (o p : Option Blob) → (equal Binary (shown p) (shown o) ≡ true) ↔ AreAlike o p
 alike_is None p = (λ e. absurd (let f : false ≡ true = sym (equals_null (shown p)) ∙ e in cc), λ h. absurd h)
-alike_is (Some v) None = (λ e. absurd (let f : false ≡ true = sym (null_equals (shown (Some v))) ∙ e in cc), λ h. absurd h)
+alike_is (Some v) None = (
+  λ e. absurd (let f : false ≡ true = sym (null_equals (shown (Some v))) ∙ e in cc),
+  λ h. absurd
+      h,
+)
 alike_is (Some v) (Some w) = bytes_are w.bytes v.bytes
 
 equal_is : (i j : ℤ) (b c : Blob) (o p : Option Blob)
-    → ((equal Binary (Words c.digest) (Words b.digest) && (is_true (binary (Compare Lt Binary) (Int i) (Int j)) && (equal Binary (shown p) (shown o) && true))) ≡ true)
+    → ((equal Binary (Words c.digest) (Words b.digest)
+    && (is_true (binary (Compare Lt Binary) (Int i) (Int j)) && (equal Binary (shown p) (shown o) && true))) ≡ true)
     ↔ ((c.digest ≡ b.digest) × (i <ℤ j) × AreAlike o p)
 equal_is i j b c o p =
     let d = texts_are c.digest b.digest in
@@ -100,29 +106,41 @@ module _ (rows : List Row) (shelf : Shelf) (h : Holds whole blob_row rows shelf)
   second : (o : Option Blob) (r : Row) → ((p : Option Blob) (s : Row) → column s 3 ≡ shown p → Hides r s ↔ IsApart o p)
       → ((s : Row) → JoinsBlob rows (Int j) s → Hides r s) ↔ IsApart o (get shelf j)
   second o r each =
-      joined as_whole blob_row rows shelf (covered_whole h) (λ s. equal Binary (column s 0) (Int j) && true) j (λ l w x. number_is l j)
+      joined as_whole blob_row rows shelf (covered_whole h) (λ s. equal Binary (column s 0) (Int j) && true) j
+      (λ l w x. number_is l j)
       (Hides r) (IsApart o) (each None [] refl) (λ w x. each (Some w) (blob_row j w) refl)
 
   of_row : (o p : Option Blob) (r s : Row) → column r 3 ≡ shown o → column s 3 ≡ shown p → Hides r s ↔ IsApart o p
   of_row o p r s shows_o shows_p =
       on_true _ ((c.digest ≡ b.digest) × (i <ℤ j) × AreAlike o p) ⊥
-      (subst (λ v. ((equal Binary (Words c.digest) (Words b.digest) && (is_true (binary (Compare Lt Binary) (Int i) (Int j)) && (equal Binary (column s 3) v && true))) ≡ true) ↔ ((c.digest ≡ b.digest) × (i <ℤ j) × AreAlike o p)) (sym shows_o)
-      (subst (λ v. ((equal Binary (Words c.digest) (Words b.digest) && (is_true (binary (Compare Lt Binary) (Int i) (Int j)) && (equal Binary v (shown o) && true))) ≡ true) ↔ ((c.digest ≡ b.digest) × (i <ℤ j) × AreAlike o p)) (sym shows_p)
+      (subst (λ v. ((equal Binary (Words c.digest) (Words b.digest)
+      && (is_true (binary (Compare Lt Binary) (Int i) (Int j)) && (equal Binary (column s 3) v && true))) ≡ true)
+      ↔ ((c.digest ≡ b.digest) × (i <ℤ j) × AreAlike o p)) (sym shows_o)
+      (subst (λ v. ((equal Binary (Words c.digest) (Words b.digest)
+      && (is_true (binary (Compare Lt Binary) (Int i) (Int j)) && (equal Binary v (shown o) && true))) ≡ true)
+      ↔ ((c.digest ≡ b.digest) × (i <ℤ j) × AreAlike o p)) (sym shows_p)
       (equal_is i j b c o p)))
 
-  of_pair : ((r : Row) → JoinsBlob rows (Int i) r → (s : Row) → JoinsBlob rows (Int j) s → Hides r s) ↔ IsApart (get shelf i) (get shelf j)
+  of_pair : ((r : Row) → JoinsBlob rows (Int i) r → (s : Row) → JoinsBlob rows (Int j) s → Hides r s)
+      ↔ IsApart (get shelf i) (get shelf j)
   of_pair =
-      joined as_whole blob_row rows shelf (covered_whole h) (λ r. equal Binary (column r 0) (Int i) && true) i (λ l v x. number_is l i)
+      joined as_whole blob_row rows shelf (covered_whole h) (λ r. equal Binary (column r 0) (Int i) && true) i
+      (λ l v x. number_is l i)
       (λ r. (s : Row) → JoinsBlob rows (Int j) s → Hides r s) (λ o. IsApart o (get shelf j))
-      (second None [] (λ p s is. of_row None p [] s refl is)) (λ v x. second (Some v) (blob_row i v) (λ p s is. of_row (Some v) p (blob_row i v) s refl is))
+      (second None [] (λ p s is. of_row None p [] s refl is))
+      (λ v x. second (Some v) (blob_row i v) (λ p s is. of_row (Some v) p (blob_row i v) s refl is))
 
 pub apart : SaysForm [] two_twice equal_terms (col 1 0 ∷ []) (λ _. ⊥) AreApart
 apart db kept h =
     let here = covered_whole h.blobs in
     also (each_row as_whole blob_row (db.trees 27) kept.shelf here _ _
-    (λ i b x. each_row as_whole blob_row (db.trees 27) kept.shelf here _ _ (λ j c y. of_pair (db.trees 27) kept.shelf h.blobs i j b c))) (
-      λ all i b at_i j c at_j. subst (λ o. IsApart (db.trees 27) kept.shelf h.blobs i j b c o (Some c)) at_i (subst (IsApart (db.trees 27) kept.shelf h.blobs i j b c (get kept.shelf i)) at_j (all i b at_i j c at_j)),
-      λ all i b at_i j c at_j. subst (λ o. IsApart (db.trees 27) kept.shelf h.blobs i j b c o (get kept.shelf j)) (sym at_i) (subst (IsApart (db.trees 27) kept.shelf h.blobs i j b c (Some b)) (sym at_j) (all i b at_i j c at_j)),
+    (λ i b x. each_row as_whole blob_row (db.trees 27) kept.shelf here _ _
+    (λ j c y. of_pair (db.trees 27) kept.shelf h.blobs i j b c))) (
+      λ all i b at_i j c at_j. subst (λ o. IsApart (db.trees 27) kept.shelf h.blobs i j b c o (Some c)) at_i
+          (subst (IsApart (db.trees 27) kept.shelf h.blobs i j b c (get kept.shelf i)) at_j (all i b at_i j c at_j)),
+      λ all i b at_i j c at_j. subst (λ o. IsApart (db.trees 27) kept.shelf h.blobs i j b c o (get kept.shelf j))
+          (sym at_i) (subst (IsApart (db.trees 27) kept.shelf h.blobs i j b c (Some b)) (sym at_j)
+          (all i b at_i j c at_j)),
     )
 
 -- ---- those that nothing names
@@ -135,15 +153,18 @@ exists_value false = Int (pos 0)
 min_one : (n : ℕ) → min 1 (suc n) ≡ 1
 min_one n = omega arith
 
-counted_is : (p : Row → Bool) (rows : List Row) → Int (pos (min 1 (length (filter p rows)))) ≡ exists_value (list_any p rows)
+counted_is : (p : Row → Bool) (rows : List Row)
+    → Int (pos (min 1 (length (filter p rows)))) ≡ exists_value (list_any p rows)
 counted_is p [] = refl
-counted_is p (x ∷ xs) = elim (cases_Bool (p x)) as (λ _. Int (pos (min 1 (length (filter p (x ∷ xs))))) ≡ exists_value (list_any p (x ∷ xs))) [
-  | inl hit ↦ rw hit (ap (λ n. Int (pos n)) (min_one (length (filter p xs))))
-  | inr off ↦ rw off (counted_is p xs)
-]
+counted_is p (x ∷ xs) = elim (cases_Bool (p x)) as
+    (λ _. Int (pos (min 1 (length (filter p (x ∷ xs))))) ≡ exists_value (list_any p (x ∷ xs))) [
+      | inl hit ↦ rw hit (ap (λ n. Int (pos n)) (min_one (length (filter p xs))))
+      | inr off ↦ rw off (counted_is p xs)
+    ]
 
 shown_where : (row : Row) (x y z : Bool)
-    → list_all (holds ([] ∷ row ∷ (exists_value x ∷ []) ∷ (exists_value y ∷ []) ∷ (exists_value z ∷ []) ∷ [])) no_names ≡ not (x || (y || z))
+    → list_all (holds ([] ∷ row ∷ (exists_value x ∷ []) ∷ (exists_value y ∷ []) ∷ (exists_value z ∷ []) ∷ [])) no_names
+    ≡ not (x || (y || z))
 unfolding everything unary
 shown_where row true y z = refl
 shown_where row false true z = refl
@@ -190,10 +211,14 @@ module _ (db : Database) (kept : Kept) (h : KeepsAs db kept) (id : ℤ) (b : Blo
   abbrev after_pieces : Value → List Env
   after_pieces v = matches trees no_names end (last_env v)
 
-  all_counted : matches trees no_names by_tiles ([] ∷ row ∷ []) ≡ (if not (in_tiles || (in_media || in_pieces)) then last_env (exists_value in_pieces) ∷ [] else [])
+  all_counted : matches trees no_names by_tiles ([] ∷ row ∷ []) ≡ (if not (in_tiles || (in_media || in_pieces))
+      then last_env (exists_value in_pieces) ∷ [] else [])
   all_counted =
-      ap (λ n. after_tiles (Int (pos (min 1 n)))) (flat_counted (at_id 5 id) (λ s. [] ∷ row ∷ s ∷ []) (db.trees 15)) ∙ ap after_tiles (counted_is (at_id 5 id) (db.trees 15))
-      ∙ ap (λ n. after_media (Int (pos (min 1 n)))) (flat_counted (at_id 3 id) (λ s. [] ∷ row ∷ (exists_value in_tiles ∷ []) ∷ s ∷ []) (db.trees 19)) ∙ ap after_media (counted_is (at_id 3 id) (db.trees 19))
+      ap (λ n. after_tiles (Int (pos (min 1 n)))) (flat_counted (at_id 5 id) (λ s. [] ∷ row ∷ s ∷ []) (db.trees 15))
+      ∙ ap after_tiles (counted_is (at_id 5 id) (db.trees 15))
+      ∙ ap (λ n. after_media (Int (pos (min 1 n))))
+      (flat_counted (at_id 3 id) (λ s. [] ∷ row ∷ (exists_value in_tiles ∷ []) ∷ s ∷ []) (db.trees 19))
+      ∙ ap after_media (counted_is (at_id 3 id) (db.trees 19))
       ∙ ap (λ n. after_pieces (Int (pos (min 1 n))))
       (flat_counted (at_id 14 id) (λ s. [] ∷ row ∷ (exists_value in_tiles ∷ []) ∷ (exists_value in_media ∷ []) ∷ s
       ∷ []) (db.trees 25)) ∙ ap after_pieces (counted_is (at_id 14 id) (db.trees 25))
@@ -214,21 +239,42 @@ module _ (db : Database) (kept : Kept) (h : KeepsAs db kept) (id : ℤ) (b : Blo
       (λ r k i same. only_id 14 id r (piece_id i) (columns_are r (staged_row k i) 13 same)) in_pieces refl))
 
 pub named : SaysForm [] (inner 27 by_tiles) no_names (col 1 0 ∷ []) (λ _. ⊥) AreNamed
-named db kept h = each_row as_whole blob_row (db.trees 27) kept.shelf (covered_whole h.blobs) _ _ (λ id b x. named_is db kept h id b)
+named db kept h = each_row as_whole blob_row (db.trees 27) kept.shelf (covered_whole h.blobs) _ _
+    (λ id b x. named_is db kept h id b)
 
 -- ---- the whole form
 
 pub in_form : (kept : Kept) → (AreDigested kept × (AreApart kept × AreNamed kept)) ↔ AreInForm kept
 in_form kept = (
-  λ h. (record { digested = λ id b is. (h.0 id b is).1; filled = λ id b is. (h.0 id b is).0; single = λ i j b c at_i at_j alike. single h.0 h.1.0 i j b c at_i at_j alike (int_cmp i j) refl }, h.1.1),
+  λ h. (
+    record {
+      digested = λ id b is. (h.0 id b is).1;
+      filled = λ id b is. (h.0 id b is).0;
+      single = λ i j b c at_i at_j alike. single h.0 h.1.0 i j b c at_i at_j alike (int_cmp i j) refl;
+    },
+    h.1.1,
+  ),
   λ f. (
     λ id b is. (f.0.filled id b is, f.0.digested id b is),
-    (λ i b at_i j c at_j e. let alike : i ≡ j = f.0.single i j b c at_i at_j (sym e.2) in let low = e.1 in omega (arith, ints, alike, low), f.1),
+    (
+      λ i b at_i j c at_j e. let alike : i ≡ j = f.0.single i j b c at_i at_j (sym e.2) in let low =
+          e.1 in omega (arith, ints, alike, low),
+      f.1,
+    ),
   ),
 )
   where
-    single : AreDigested kept → AreApart kept → (i j : ℤ) (b c : Blob) → get kept.shelf i ≡ Some b → get kept.shelf j ≡ Some c → b.bytes ≡ c.bytes
+    single : AreDigested kept → AreApart kept → (i j : ℤ) (b c : Blob) → get kept.shelf i ≡ Some b
+        → get kept.shelf j ≡ Some c → b.bytes ≡ c.bytes
         → (o : Ordering) → o ≡ int_cmp i j → i ≡ j
     single right apart i j b c at_i at_j alike Equal is = int_ranked i j Equal is
-    single right apart i j b c at_i at_j alike Less is = absurd (apart i b at_i j c at_j ((right j c at_j).1 ∙ ap digest_of (sym alike) ∙ sym (right i b at_i).1, int_ranked i j Less is, sym alike))
-    single right apart i j b c at_i at_j alike Greater is = absurd (apart j c at_j i b at_i ((right i b at_i).1 ∙ ap digest_of alike ∙ sym (right j c at_j).1, int_ranked i j Greater is, alike))
+    single right apart i j b c at_i at_j alike Less is =
+        absurd (apart i b at_i j c at_j (
+          (right j c at_j).1 ∙ ap digest_of (sym alike)
+              ∙ sym (right i b at_i).1,
+          int_ranked i j Less is,
+          sym alike,
+        ))
+    single right apart i j b c at_i at_j alike Greater is =
+        absurd (apart j c at_j i b at_i
+        ((right i b at_i).1 ∙ ap digest_of alike ∙ sym (right j c at_j).1, int_ranked i j Greater is, alike))

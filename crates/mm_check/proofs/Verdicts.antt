@@ -1,5 +1,6 @@
 -- All rules in turn.
-use Rattle.std.proofs.Common.{◌≡◌, ◌↔◌, inl, inr, ℕ, ◌+◌, ◌<◌, ◌≤◌, Bool, true, false, Option, Some, None, Result, Ok, Err, refl, sym, subst, arith}
+use Rattle.std.proofs.Common.{◌≡◌, ◌↔◌, inl, inr, ℕ, ◌+◌, ◌<◌, ◌≤◌, Bool, true, false, Option, Some, None, Result, Ok}
+use Rattle.std.proofs.Common.{Err, refl, sym, subst, arith}
 use Rattle.std.specs.Prelude.{⊤}
 use Rattle.sqlite.specs.State.{State, HasCleanDisk}
 use Rattle.mm_definitions.specs.Bounds.{Profile}
@@ -13,7 +14,8 @@ use Rattle.mm_walk.specs.InTurn.{HasPassed}
 use Rattle.mm_check.specs.Verdict.{rule, Before, IsVerdict, IsVerifiedWhere}
 use Rattle.mm_walk.proofs.InTurn.{none_below, one_more, first_passes, next_passes, still_shown, asked_alone, all_passed}
 
-one_more_rule : (profile : Profile) (p : Package) (k : ℕ) → Before profile k p → rule profile k p → Before profile (k + 1) p
+one_more_rule : (profile : Profile) (p : Package) (k : ℕ) → Before profile k p → rule profile k p
+    → Before profile (k + 1) p
 one_more_rule profile p k before here = (before.0, one_more (rule profile) p k before.1 here)
 
 module _ (profile : Profile) (Known : Package → Type 0) (old new : State) where
@@ -135,9 +137,12 @@ all_pass profile Known old new k is passed =
     verified profile Known old new (Before profile 16) true None c
     (λ clean p s known. each_meets profile p (h.says clean p s known))
 
-pub as_rule : (profile : Profile) (old new : State) (Known : Package → Type 0) (Rule : Package → Type 0) (k n : ℕ) → k ≡ n
-    → ((p : Package) → Before profile n p → Known p) → ((p : Package) → Rule p ↔ rule profile n p) → (r : Result Bool Fault)
+pub as_rule : (profile : Profile) (old new : State) (Known : Package → Type 0) (Rule : Package → Type 0) (k n : ℕ)
+    → k ≡ n
+    → ((p : Package) → Before profile n p → Known p) → ((p : Package) → Rule p ↔ rule profile n p)
+    → (r : Result Bool Fault)
     → IsCheck profile old new Known Rule r
     → IsCheck profile old new (Before profile k) (rule profile k) r
 as_rule profile old new Known Rule k n is knows same r h =
-    subst (λ m. IsCheck profile old new (Before profile m) (rule profile m) r) (sym is) (same_rule profile old new Known (Before profile n) Rule (rule profile n) knows (λ p _. same p) r h)
+    subst (λ m. IsCheck profile old new (Before profile m) (rule profile m) r) (sym is)
+    (same_rule profile old new Known (Before profile n) Rule (rule profile n) knows (λ p _. same p) r h)

@@ -61,7 +61,8 @@ module _ (profile : Profile) (old mid new : State) (longest : ℕ)
     -- so many bytes an entry has at most
     formed_few : HasCleanDisk new → (p : Package) → IsSeenAs profile old p → AreFew (Some longest) p
     formed_few clean p s =
-        few_seen profile old p longest (formed.same (before clean)).0 s (λ kept keeps. told.longest (before clean) kept keeps)
+        few_seen profile old p longest (formed.same (before clean)).0 s
+        (λ kept keeps. told.longest (before clean) kept keeps)
 
   pub checked_well : IsVerifiedWhere profile (AreFew (Some longest)) mid new (Ok None)
       → IsChecked profile old new (Ok tt)

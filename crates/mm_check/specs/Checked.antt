@@ -32,8 +32,8 @@ NoNumber (Err opens.NoProfile) = ⊥
 NoNumber (Err opens.BadProfile) = ⊥
 NoNumber _ = ⊤
 
--- It wrote nothing, leaves the connection reading as before, and settled where it was, and, at `Ok`, the store open. It answers what the form of the blobs
--- and the whole check tell.
+-- It wrote nothing, leaves the connection reading as before, and settled where it was, and, at `Ok`, the store open. It
+-- answers what the form of the blobs and the whole check tell.
 pub record IsChecked (profile : Profile) (old new : State) (result : Result (Unit {0}) Open) : Type 0 where
   pub mode : old.in_transaction ≡ false → new.in_transaction ≡ false
   pub survives : CommitsNothing old new

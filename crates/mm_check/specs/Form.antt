@@ -101,15 +101,17 @@ pub record ReadsLoosely (version : ℤ) (db : Database) (kept : Kept) (p : Packa
 
 -- ---- a check of the form, or of a part
 
--- It opens no transaction, writes nothing, and leaves the connection reading as before, and settled where it was. It tells whether the blobs have
--- the form, whatever the four tables hold. Its faults are the store's, and none is the form's.
+-- It opens no transaction, writes nothing, and leaves the connection reading as before, and settled where it was. It
+-- tells whether the blobs have the form, whatever the four tables hold. Its faults are the store's, and none is the
+-- form's.
 pub record IsFormCheck (old new : State) (Form : Kept → Type 0) (result : Result Bool Fault) : Type 0 where
   pub mode : old.in_transaction ≡ false → new.in_transaction ≡ false
   pub survives : CommitsNothing old new
   pub same : HasCleanDisk new → OnOk result (IsTrue old.is_open × IsTrue new.is_open × (new.now ≡ old.now))
   pub seen : HasCleanDisk new → (profile : Profile) (p : Package) → IsSeenAs profile old p → IsSeenAs profile new p
   pub settled : HasCleanDisk new → (profile : Profile) (p : Package) → IsSettled profile old p → IsSettled profile new p
-  pub says : HasCleanDisk new → (kept : Kept) → (IsTrue old.is_open → KeepsAs old.now kept) → IfOk result (λ b. IsTrue b ↔ Form kept)
+  pub says : HasCleanDisk new → (kept : Kept) → (IsTrue old.is_open → KeepsAs old.now kept)
+      → IfOk result (λ b. IsTrue b ↔ Form kept)
   pub faults : IfErr result IsStoreFault
 
 -- It tells whether the blobs have the form, and where they have, how many bytes the longest has.
@@ -121,7 +123,8 @@ pub record TellsLongest (old new : State) (Form : Kept → Type 0) (result : Res
 -- Where all else is as it should be, the form is what tells whether the database reads as the package.
 abbrev pub DecidesReading : State → State → Result Bool Fault → Type 0
 DecidesReading old new result = (version : ℤ) (kept : Kept) (p : Package)
-    → (IsTrue old.is_open → ReadsLoosely version old.now kept p) → IfOk result (λ b. IsTrue b ↔ ReadsAs version new.now p)
+    → (IsTrue old.is_open → ReadsLoosely version old.now kept p)
+    → IfOk result (λ b. IsTrue b ↔ ReadsAs version new.now p)
 
 -- ---- what a form that is asked for tells of a database
 

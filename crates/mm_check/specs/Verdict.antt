@@ -1,5 +1,6 @@
 -- Which rule a package breaks first, and what the whole check answers.
-use Rattle.std.specs.Prelude.{◌≡◌, ◌⊎◌, ℕ, ◌≤◌, ◌<◌, ◌==◌, false, Option, Some, None, Result, IfOk, IfErr, OnOk, IsTrue, ⊤}
+use Rattle.std.specs.Prelude.{◌≡◌, ◌⊎◌, ℕ, ◌≤◌, ◌<◌, ◌==◌, false, Option, Some, None, Result, IfOk, IfErr, OnOk, IsTrue}
+use Rattle.std.specs.Prelude.{⊤}
 use Rattle.sqlite.specs.State.{State, HasCleanDisk}
 use Rattle.mm_definitions.specs.Bounds.{Profile}
 use Rattle.mm_definitions.specs.Package.{Package}
@@ -39,7 +40,8 @@ Before profile k p = rule profile 16 p × HoldsBelow (rule profile) k p
 
 -- 16 where rule 16 fails, else the least that fails
 abbrev pub IsFailing : Profile → Package → ℕ → Type 0
-IsFailing profile p k = ((k ≡ 16) × (rule profile 16 p → ⊥)) ⊎ ((1 ≤ k) × (k < 16) × Before profile k p × (rule profile k p → ⊥))
+IsFailing profile p k = ((k ≡ 16) × (rule profile 16 p → ⊥))
+    ⊎ ((1 ≤ k) × (k < 16) × Before profile k p × (rule profile k p → ⊥))
 
 -- None where the package meets all sixteen rules, else the rule that is told of it
 abbrev pub IsVerdict : Profile → Package → Option ℕ → Type 0
@@ -47,8 +49,8 @@ IsVerdict profile p None = Meets profile p
 IsVerdict profile p (Some k) = IsFailing profile p k
 
 -- It opens no transaction, writes nothing, and leaves the connection reading as before, and settled where it was. It
--- answers which rule the package breaks that the connection reads as, which is known to meet `Known`; where it does, the
--- store is open. No fault is a rule's.
+-- answers which rule the package breaks that the connection reads as, which is known to meet `Known`; where it does,
+-- the store is open. No fault is a rule's.
 pub record IsVerifiedWhere (profile : Profile) (Known : Package → Type 0) (old new : State)
     (result : Result (Option ℕ) Fault) : Type 0 where
   pub mode : old.in_transaction ≡ false → new.in_transaction ≡ false

@@ -7,9 +7,9 @@ ghost use Rattle.mm_definitions.specs.Units.{profile_of};
 ghost use Rattle.mm_check.specs.Verdict.{rule, Before, IsVerified, IsVerifiedWhere};
 ghost use Rattle.mm_column_limits.specs.Longest.{AreFew};
 
+use mm_column_limits::{editions, limits};
 use mm_definitions::answers::{Fault, RuleNumber};
 use mm_definitions::units::Unit;
-use mm_column_limits::{editions, limits};
 use mm_rules::{contents, extensions, items, matrices, systems, tiles};
 use sqlite::{Alter, Connection};
 

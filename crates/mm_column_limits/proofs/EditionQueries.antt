@@ -30,7 +30,8 @@ pub quiet_pieces_of_open : IsQuiet text.pieces_of_open
 unfolding everything
 quiet_pieces_of_open = λ schema base. refl
 
-pub pieces_numbered : IsQuery schema text.pieces_numbered (inner 25 (left 25 (equals 2 1 1 1 ∷ follows 2 2 1 2 ∷ []) end)) [] (col 1 2 ∷ col 2 2 ∷ [])
+pub pieces_numbered : IsQuery schema text.pieces_numbered
+    (inner 25 (left 25 (equals 2 1 1 1 ∷ follows 2 2 1 2 ∷ []) end)) [] (col 1 2 ∷ col 2 2 ∷ [])
     ((col 1 1, ascending Binary) ∷ (col 1 2, ascending Binary) ∷ []) (codes "piece_no" ∷ codes "piece_no" ∷ [])
 unfolding understood everything
 pieces_numbered = record { compiled = refl; plain = (refl, refl); unlisted = refl }

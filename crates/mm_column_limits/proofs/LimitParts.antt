@@ -15,9 +15,13 @@ use Rattle.mm_walk.proofs.InTurn.{either_holds, none_below, one_more, none_asked
 part_holds : (profile : Profile) (p : Package) (k : ℕ) → Limits profile p → part profile k p
 unfolding part
 part_holds profile p k l =
-    either_holds (k == 1) _ _ l.systems (either_holds (k == 2) _ _ l.contents (either_holds (k == 3) _ _ l.kinds (either_holds (k == 4) _ _ l.sets (either_holds (k == 5) _ _ l.matrices
-    (either_holds (k == 6) _ _ l.extensions (either_holds (k == 7) _ _ l.tiles (either_holds (k == 8) _ _ l.rows (either_holds (k == 9) _ _ l.media
-    (either_holds (k == 10) _ _ l.relations (either_holds (k == 11) _ _ l.pairings (either_holds (k == 12) _ _ l.editions l.pieces)))))))))))
+    either_holds (k == 1) _ _ l.systems
+    (either_holds (k == 2) _ _ l.contents
+    (either_holds (k == 3) _ _ l.kinds (either_holds (k == 4) _ _ l.sets (either_holds (k == 5) _ _ l.matrices
+    (either_holds (k == 6) _ _ l.extensions
+    (either_holds (k == 7) _ _ l.tiles (either_holds (k == 8) _ _ l.rows (either_holds (k == 9) _ _ l.media
+    (either_holds (k == 10) _ _ l.relations
+    (either_holds (k == 11) _ _ l.pairings (either_holds (k == 12) _ _ l.editions l.pieces)))))))))))
 
 -- and the thirteen parts are all
 all_parts : (profile : Profile) (p : Package) → HoldsBelow (part profile) 14 p → Limits profile p

@@ -9,7 +9,8 @@ use Rattle.sqlite.specs.Listing.{understood}
 use Rattle.sql_forms.specs.Compute.{everything}
 use Rattle.mm_walk.specs.RowTests.{IsQuery}
 use Rattle.mm_store.specs.Tables.{schema}
-use Rattle.mm_column_limits.specs.declared.parts.TheConstants.{SYSTEMS, CONTENTS, KINDS, SETS, MATRICES, EXTENSIONS, TILES}
+use Rattle.mm_column_limits.specs.declared.parts.TheConstants.{SYSTEMS, CONTENTS, KINDS, SETS, MATRICES, EXTENSIONS}
+use Rattle.mm_column_limits.specs.declared.parts.TheConstants.{TILES}
 use Rattle.mm_column_limits.specs.declared.parts.TheConstants.{ROWS, MEDIA, RELATIONS, PAIRINGS, EDITIONS, PIECES}
 use Rattle.mm_column_limits.specs.declared.parts.TheConstants.{TILE_PLACES, MEDIA_TYPES}
 use Rattle.mm_walk.proofs.Terms.{equals}

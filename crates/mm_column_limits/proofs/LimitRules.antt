@@ -30,7 +30,8 @@ use Rattle.mm_column_limits.specs.LimitRows.{number_if_any, text_if_any, IsWithi
 use Rattle.mm_column_limits.specs.LimitParts.{query_of, limits_of, part, by_bytes}
 use Rattle.mm_column_limits.specs.Longest.{AreFew, is_few}
 use Rattle.mm_column_limits.specs.declared.row_limits.Limit.{Limit}
-use Rattle.mm_column_limits.specs.declared.parts.TheConstants.{SYSTEMS, CONTENTS, KINDS, SETS, MATRICES, EXTENSIONS, TILES}
+use Rattle.mm_column_limits.specs.declared.parts.TheConstants.{SYSTEMS, CONTENTS, KINDS, SETS, MATRICES, EXTENSIONS}
+use Rattle.mm_column_limits.specs.declared.parts.TheConstants.{TILES}
 use Rattle.mm_column_limits.specs.declared.parts.TheConstants.{ROWS, MEDIA, RELATIONS, PAIRINGS, EDITIONS, PIECES}
 use Rattle.mm_column_limits.specs.declared.parts.TheConstants.{TILE_PLACES, MEDIA_TYPES}
 use Rattle.mm_walk.proofs.Joined.{as_whole, after_rowid, after_id, covered, covered_whole, covered_id, each_row}

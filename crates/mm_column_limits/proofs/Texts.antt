@@ -50,12 +50,15 @@ one_more n = omega arith
 two_more : (n : ℕ) → (1 + n) + 1 ≡ suc (n + 1)
 two_more n = omega arith
 
-low_round : (text : Text) → list_any high (before_first is_slash text) ≡ false → list_any high (after_first is_slash text) ≡ false → list_any high text ≡ false
+low_round : (text : Text) → list_any high (before_first is_slash text) ≡ false
+    → list_any high (after_first is_slash text) ≡ false → list_any high text ≡ false
 low_round [] a b = refl
 low_round (c ∷ cs) a b = go (is_slash c) refl a b (low_round cs)
   where
-    go : (s : Bool) → is_slash c ≡ s → list_any high (before_first is_slash (c ∷ cs)) ≡ false → list_any high (after_first is_slash (c ∷ cs)) ≡ false
-        → (list_any high (before_first is_slash cs) ≡ false → list_any high (after_first is_slash cs) ≡ false → list_any high cs ≡ false)
+    go : (s : Bool) → is_slash c ≡ s → list_any high (before_first is_slash (c ∷ cs)) ≡ false
+        → list_any high (after_first is_slash (c ∷ cs)) ≡ false
+        → (list_any high (before_first is_slash cs) ≡ false → list_any high (after_first is_slash cs) ≡ false
+        → list_any high cs ≡ false)
         → list_any high (c ∷ cs) ≡ false
     go true is a b more = ap (λ x. x || list_any high cs) (slash_low c is) ∙ rw is at b
     go false is a b more =

@@ -8,7 +8,8 @@ use Rattle.mm_definitions.specs.Rules.{ExtensionWithin, TileWithin, RowWithin, M
 use Rattle.mm_definitions.specs.Rules.{PairingWithin, EditionWithin, PieceWithin}
 use Rattle.mm_walk.specs.InTurn.{chosen}
 use Rattle.mm_column_limits.specs.declared.row_limits.Limit.{Limit}
-use Rattle.mm_column_limits.specs.declared.parts.TheConstants.{SYSTEMS, CONTENTS, KINDS, SETS, MATRICES, EXTENSIONS, TILES}
+use Rattle.mm_column_limits.specs.declared.parts.TheConstants.{SYSTEMS, CONTENTS, KINDS, SETS, MATRICES, EXTENSIONS}
+use Rattle.mm_column_limits.specs.declared.parts.TheConstants.{TILES}
 use Rattle.mm_column_limits.specs.declared.parts.TheConstants.{ROWS, MEDIA, RELATIONS, PAIRINGS, EDITIONS, PIECES}
 use Rattle.mm_column_limits.specs.declared.parts.TheConstants.{TILE_PLACES, MEDIA_TYPES}
 use Rattle.mm_column_limits.specs.Longest.{is_few}

@@ -11,11 +11,15 @@ use Rattle.mm_definitions.specs.Rules.{AreSystemNumbers}
 use Rattle.mm_definitions.specs.Stamp.{IsSomeStamp}
 use Rattle.mm_walk.specs.Columns.{number_of, text_bytes, bytes_of}
 use Rattle.mm_column_limits.specs.declared.row_limits.Limit.{Limit}
-use Rattle.mm_column_limits.specs.declared.row_limits.Limit.TheVariants.{Name, Identifier, ContentType, Stamp, SystemName}
-use Rattle.mm_column_limits.specs.declared.row_limits.Limit.TheVariants.{Definition, Remark, Clean, CleanIfAny, NoText, Id}
-use Rattle.mm_column_limits.specs.declared.row_limits.Limit.TheVariants.{SystemNumbers, Any, SystemNumber, SystemNumberIfAny}
+use Rattle.mm_column_limits.specs.declared.row_limits.Limit.TheVariants.{Name, Identifier, ContentType, Stamp}
+use Rattle.mm_column_limits.specs.declared.row_limits.Limit.TheVariants.{SystemName}
+use Rattle.mm_column_limits.specs.declared.row_limits.Limit.TheVariants.{Definition, Remark, Clean, CleanIfAny, NoText}
+use Rattle.mm_column_limits.specs.declared.row_limits.Limit.TheVariants.{Id}
+use Rattle.mm_column_limits.specs.declared.row_limits.Limit.TheVariants.{SystemNumbers, Any, SystemNumber}
+use Rattle.mm_column_limits.specs.declared.row_limits.Limit.TheVariants.{SystemNumberIfAny}
 use Rattle.mm_column_limits.specs.declared.row_limits.Limit.TheVariants.{Coordinate, CoordinateIfAny, PixelSize, Zoom}
-use Rattle.mm_column_limits.specs.declared.row_limits.Limit.TheVariants.{MatrixSide, TileSide, TilePlace, Amount, TileBytes}
+use Rattle.mm_column_limits.specs.declared.row_limits.Limit.TheVariants.{MatrixSide, TileSide, TilePlace, Amount}
+use Rattle.mm_column_limits.specs.declared.row_limits.Limit.TheVariants.{TileBytes}
 use Rattle.mm_column_limits.specs.declared.row_limits.Limit.TheVariants.{MediaBytes}
 
 -- ---- a column

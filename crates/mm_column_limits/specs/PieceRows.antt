@@ -17,7 +17,8 @@ IsOpenRow r = text_bytes (column r 0) ≡ Some (codes "open")
 
 -- the number of a piece, and the number before it if that stands
 abbrev pub IsNumberedRow : Row → Type 0
-IsNumberedRow r = number_by (IsFrom (pos 1) (pos MostPieces)) (column r 0) × ((number_of (column r 0) ≡ Some (pos 1)) ⊎ IsTrue (is_there (column r 1)))
+IsNumberedRow r = number_by (IsFrom (pos 1) (pos MostPieces)) (column r 0)
+    × ((number_of (column r 0) ≡ Some (pos 1)) ⊎ IsTrue (is_there (column r 1)))
 
 -- ---- the columns of a piece: kind, name, seven numbers, two texts, and the bytes of its blob
 -- the number in this column is 0, as where the kind uses none there
@@ -42,7 +43,8 @@ HasNoBytes r = is_there (column r 11) ≡ false
 
 -- k1 to k3 are the zoom level, column and row of a tile
 abbrev pub IsPlaceOfTile : Row → Type 0
-IsPlaceOfTile r = number_by IsZoom (column r 2) × number_by IsTilePlace (column r 3) × number_by IsTilePlace (column r 4)
+IsPlaceOfTile r = number_by IsZoom (column r 2) × number_by IsTilePlace (column r 3)
+    × number_by IsTilePlace (column r 4)
 
 -- k1 is the number of an attribute row or a medium, and k2 and k3 are 0
 abbrev pub IsItem : Row → Type 0
@@ -92,13 +94,15 @@ IsContent r = AreUnused r × (PutsEntry r ⊎ IsDrop r)
 
 -- k2 to k5 are the width and height of a matrix in tiles, and those of a tile in pixels
 abbrev pub AreSides : Row → Type 0
-AreSides r = number_by IsMatrixSide (column r 3) × number_by IsMatrixSide (column r 4) × number_by IsTileSide (column r 5) × number_by IsTileSide (column r 6)
+AreSides r = number_by IsMatrixSide (column r 3) × number_by IsMatrixSide (column r 4)
+    × number_by IsTileSide (column r 5) × number_by IsTileSide (column r 6)
 
 -- puts a matrix, where the profile takes such a piece: its zoom level, its sides, and k6 and k7 as its pixel sizes
 abbrev pub IsMatrix : Profile → Row → Type 0
 IsMatrix profile r =
     IsTrue profile.matrix_pieces × IsOfKind (codes "matrix") r × number_by IsZoom (column r 2) × AreSides r
-    × number_by (IsPixelSize profile) (column r 7) × number_by (IsPixelSize profile) (column r 8) × HasNoTexts r × HasNoBytes r
+    × number_by (IsPixelSize profile) (column r 7) × number_by (IsPixelSize profile) (column r 8) × HasNoTexts r
+    × HasNoBytes r
 
 -- a row that spells a piece of the profile: the name of a table or a mapping, and the columns as its kind uses them
 pub record IsSpelledRow (profile : Profile) (r : Row) : Type 0 where

@@ -1,5 +1,6 @@
 -- For which number a command on content is refused, from what was looked up.
-use Rattle.std.proofs.Common.{◌≡◌, ℕ, ℤ, pos, Bool, true, false, not, ◌&&◌, ◌||◌, List, [], ◌∷◌, Option, Some, None, option_map, is_some, refl, sym, ap, ◌∙◌}
+use Rattle.std.proofs.Common.{◌≡◌, ℕ, ℤ, pos, Bool, true, false, not, ◌&&◌, ◌||◌, List, [], ◌∷◌, Option, Some, None}
+use Rattle.std.proofs.Common.{option_map, is_some, refl, sym, ap, ◌∙◌}
 use Rattle.std.specs.Prelude.{nat_le, int_le}
 use Rattle.std.specs.List.{list_all}
 use Rattle.std.specs.FinMap.{get, contains_key}
@@ -24,7 +25,8 @@ of_kind stands suited rest = least ((25, not stands) ∷ (26, stands && not suit
 
 -- a table that is refused for its kind is refused so whatever else is asked
 pub kind_first : (stands suited : Bool) (rest : Reasons) (n : ℕ) → list_all (λ r. nat_le 25 r.0) rest ≡ true
-    → list_all (λ r. nat_le 26 r.0) rest ≡ true → Some n ≡ of_kind stands suited [] → Some n ≡ of_kind stands suited rest
+    → list_all (λ r. nat_le 26 r.0) rest ≡ true → Some n ≡ of_kind stands suited []
+    → Some n ≡ of_kind stands suited rest
 kind_first false suited rest n h k e = e ∙ sym (first_of 25 ((26, false) ∷ rest) h)
 kind_first true false rest n h k e = e ∙ sym (first_of 26 rest k)
 kind_first true true rest n h k e = absurd (let f : ◌≡◌ {A = Option ℕ} (Some n) None = e in cc)
@@ -36,7 +38,8 @@ kind_free true true e = (refl, refl)
 
 module _ (p : Package) (table : Text) where
   module _ (profile : Profile) (meets : Meets profile p) where
-    pub kind_25 : (suited : Bool) → get p.kinds table ≡ None → Some 25 ≡ of_kind (contains_key p.contents table) suited []
+    pub kind_25 : (suited : Bool) → get p.kinds table ≡ None
+        → Some 25 ≡ of_kind (contains_key p.contents table) suited []
     kind_25 suited none = sym (ap (λ b. of_kind b suited []) (lacks_contents profile p meets table none))
 
     module _ (kind : Kind) (has : get p.kinds table ≡ Some (kind_text kind)) where
@@ -48,19 +51,25 @@ module _ (p : Package) (table : Text) where
 
       pub plain_26 : (asked : PlainKind) → same_text (kind_text (plain_kind asked)) (kind_text kind) ≡ false
           → Some 26 ≡ of_kind (contains_key p.contents table) (has_kind p.kinds table (plain_kind asked)) []
-      plain_26 asked off = sym (kind_told (has_kind p.kinds table (plain_kind asked)) ∙ ap (λ b. of_kind true b []) (ap (at_value (same_text (kind_text (plain_kind asked)))) has ∙ off))
+      plain_26 asked off = sym (kind_told (has_kind p.kinds table (plain_kind asked))
+          ∙ ap (λ b. of_kind true b []) (ap (at_value (same_text (kind_text (plain_kind asked)))) has ∙ off))
 
       pub plain_free : (asked : PlainKind) → same_text (kind_text (plain_kind asked)) (kind_text kind) ≡ true
           → None ≡ of_kind (contains_key p.contents table) (has_kind p.kinds table (plain_kind asked)) []
-      plain_free asked on = sym (kind_told (has_kind p.kinds table (plain_kind asked)) ∙ ap (λ b. of_kind true b []) (ap (at_value (same_text (kind_text (plain_kind asked)))) has ∙ on))
+      plain_free asked on = sym (kind_told (has_kind p.kinds table (plain_kind asked))
+          ∙ ap (λ b. of_kind true b []) (ap (at_value (same_text (kind_text (plain_kind asked)))) has ∙ on))
 
-      pub pyramid_26 : (same_text (kind_text kinds.Two) (kind_text kind) || same_text (kind_text kinds.Other) (kind_text kind)) ≡ false
+      pub pyramid_26 : (same_text (kind_text kinds.Two) (kind_text kind) || same_text (kind_text kinds.Other)
+          (kind_text kind)) ≡ false
           → Some 26 ≡ of_kind (contains_key p.contents table) (is_pyramid p.kinds table) []
-      pyramid_26 off = sym (kind_told (is_pyramid p.kinds table) ∙ ap (λ b. of_kind true b []) (ap pyramid_by has ∙ off))
+      pyramid_26 off = sym (kind_told (is_pyramid p.kinds table)
+          ∙ ap (λ b. of_kind true b []) (ap pyramid_by has ∙ off))
 
-      pub pyramid_free : (same_text (kind_text kinds.Two) (kind_text kind) || same_text (kind_text kinds.Other) (kind_text kind)) ≡ true
+      pub pyramid_free : (same_text (kind_text kinds.Two) (kind_text kind) || same_text (kind_text kinds.Other)
+          (kind_text kind)) ≡ true
           → None ≡ of_kind (contains_key p.contents table) (is_pyramid p.kinds table) []
-      pyramid_free on = sym (kind_told (is_pyramid p.kinds table) ∙ ap (λ b. of_kind true b []) (ap pyramid_by has ∙ on))
+      pyramid_free on = sym (kind_told (is_pyramid p.kinds table)
+          ∙ ap (λ b. of_kind true b []) (ap pyramid_by has ∙ on))
 
 -- ---- tiles
 
@@ -84,31 +93,41 @@ module _ (p : Package) (table : Text) (zoom column row : ℕ) where
     abbrev out : Bool
     out = at_value (outside (pos column) (pos row)) grid_at
 
-    pub tile_by_kind : (n : ℕ) → Some n ≡ of_kind (contains_key p.contents table) (is_pyramid p.kinds table) [] → Some n ≡ why_tile
-    tile_by_kind n e = kind_first (contains_key p.contents table) tiled ((33, tiled && not (is_some grid_at)) ∷ (34, out) ∷ []) n refl refl e
+    pub tile_by_kind : (n : ℕ) → Some n ≡ of_kind (contains_key p.contents table) (is_pyramid p.kinds table) []
+        → Some n ≡ why_tile
+    tile_by_kind n e = kind_first (contains_key p.contents table) tiled
+        ((33, tiled && not (is_some grid_at)) ∷ (34, out) ∷ []) n refl refl e
 
     module _ (free : None ≡ of_kind (contains_key p.contents table) (is_pyramid p.kinds table) []) where
       suited_tile : (there b : Bool) → of_tile (contains_key p.contents table) tiled there b ≡ of_tile true true there b
-      suited_tile there b = let k = kind_free (contains_key p.contents table) tiled free in ap (λ x. of_tile x tiled there b) k.0 ∙ ap (λ x. of_tile true x there b) k.1
+      suited_tile there b = let k = kind_free (contains_key p.contents table) tiled free in ap
+          (λ x. of_tile x tiled there b) k.0 ∙ ap (λ x. of_tile true x there b) k.1
 
       pub tile_33 : option_map sides (get p.matrices (level table (pos zoom))) ≡ None → Some 33 ≡ why_tile
-      tile_33 none = sym (suited_tile (is_some grid_at) out ∙ ap (λ b. of_tile true true b out) (ap (λ (o : Option Grid). is_some o) (unmapped grid_at none)) ∙ first_of 33 ((34, out) ∷ []) refl)
+      tile_33 none = sym (suited_tile (is_some grid_at) out
+          ∙ ap (λ b. of_tile true true b out) (ap (λ (o : Option Grid). is_some o) (unmapped grid_at none))
+          ∙ first_of 33 ((34, out) ∷ []) refl)
         where
           unmapped : (o : Option Grid) → option_map sides o ≡ None → o ≡ None
           unmapped None e = refl
           unmapped (Some g) e = absurd (let f : ◌≡◌ {A = Option (ℤ × ℤ)} (Some (sides g)) None = e in cc)
 
-      module _ (width height : ℤ) (has : option_map sides (get p.matrices (level table (pos zoom))) ≡ Some (width, height)) where
+      module _ (width height : ℤ) (has : option_map sides (get p.matrices (level table (pos zoom)))
+          ≡ Some (width, height)) where
         grid_there : (o : Option Grid) → option_map sides o ≡ Some (width, height)
             → (g : Grid) × (o ≡ Some g) × (g.matrix_width ≡ width) × (g.matrix_height ≡ height)
         grid_there None e = absurd cc
-        grid_there (Some g) e = let same : sides g ≡ (width, height) = cc in (g, refl, ap (λ (q : ℤ × ℤ). q.0) same, ap (λ (q : ℤ × ℤ). q.1) same)
+        grid_there (Some g) e = let same : sides g ≡ (width, height) =
+            cc in (g, refl, ap (λ (q : ℤ × ℤ). q.0) same, ap (λ (q : ℤ × ℤ). q.1) same)
 
-        told : (b : Bool) → (int_le width (pos column) || int_le height (pos row)) ≡ b → why_tile ≡ of_tile true true true b
+        told : (b : Bool) → (int_le width (pos column) || int_le height (pos row)) ≡ b
+            → why_tile ≡ of_tile true true true b
         told b is =
             let g = grid_there grid_at has in
-            suited_tile (is_some grid_at) out ∙ ap (λ x. of_tile true true x out) (ap (λ (o : Option Grid). is_some o) g.1)
-            ∙ ap (of_tile true true true) (ap (at_value (outside (pos column) (pos row))) g.1 ∙ (λ i. int_le (g.2 i) (pos column) || int_le (g.3 i) (pos row)) ∙ is)
+            suited_tile (is_some grid_at) out
+            ∙ ap (λ x. of_tile true true x out) (ap (λ (o : Option Grid). is_some o) g.1)
+            ∙ ap (of_tile true true true) (ap (at_value (outside (pos column) (pos row))) g.1
+            ∙ (λ i. int_le (g.2 i) (pos column) || int_le (g.3 i) (pos row)) ∙ is)
 
         pub tile_34 : (int_le width (pos column) || int_le height (pos row)) ≡ true → Some 34 ≡ why_tile
         tile_34 is = sym (told true is)
@@ -125,17 +144,23 @@ module _ (p : Package) (table : Text) (zoom column row : ℕ) where
   abbrev tile_there : Bool
   tile_there = contains_key p.tiles (tile table (pos zoom) (pos column) (pos row))
 
-  pub tile_drop_by_kind : (n : ℕ) → Some n ≡ of_kind (contains_key p.contents table) (is_pyramid p.kinds table) [] → Some n ≡ why_tile_drop
-  tile_drop_by_kind n e = kind_first (contains_key p.contents table) tiled ((35, tiled && not tile_there) ∷ []) n refl refl e
+  pub tile_drop_by_kind : (n : ℕ) → Some n ≡ of_kind (contains_key p.contents table) (is_pyramid p.kinds table) []
+      → Some n ≡ why_tile_drop
+  tile_drop_by_kind n e = kind_first (contains_key p.contents table) tiled ((35, tiled && not tile_there) ∷ []) n refl
+      refl e
 
   module _ (free : None ≡ of_kind (contains_key p.contents table) (is_pyramid p.kinds table) []) where
-    suited_drop : (there : Bool) → of_tile_drop (contains_key p.contents table) tiled there ≡ of_tile_drop true true there
-    suited_drop there = let k = kind_free (contains_key p.contents table) tiled free in ap (λ x. of_tile_drop x tiled there) k.0 ∙ ap (λ x. of_tile_drop true x there) k.1
+    suited_drop : (there : Bool) → of_tile_drop (contains_key p.contents table) tiled there ≡ of_tile_drop true true
+        there
+    suited_drop there = let k = kind_free (contains_key p.contents table) tiled free in ap
+        (λ x. of_tile_drop x tiled there) k.0 ∙ ap (λ x. of_tile_drop true x there) k.1
 
-    pub tile_drop_35 : contains_key p.tiles (tile table (pos zoom) (pos column) (pos row)) ≡ false → Some 35 ≡ why_tile_drop
+    pub tile_drop_35 : contains_key p.tiles (tile table (pos zoom) (pos column) (pos row)) ≡ false
+        → Some 35 ≡ why_tile_drop
     tile_drop_35 gone = sym (suited_drop tile_there ∙ ap (of_tile_drop true true) gone)
 
-    pub tile_drop_free : contains_key p.tiles (tile table (pos zoom) (pos column) (pos row)) ≡ true → None ≡ why_tile_drop
+    pub tile_drop_free : contains_key p.tiles (tile table (pos zoom) (pos column) (pos row)) ≡ true
+        → None ≡ why_tile_drop
     tile_drop_free there = sym (suited_drop tile_there ∙ ap (of_tile_drop true true) there)
 
 -- ---- rows
@@ -153,14 +178,19 @@ module _ (p : Package) (table : Text) (id : ℤ) where
   abbrev row_there : Bool
   row_there = contains_key p.rows (item table id)
 
-  pub row_drop_by_kind : (n : ℕ) → Some n ≡ of_kind (contains_key p.contents table) (has_kind p.kinds table kinds.Attributes) [] → Some n ≡ why_row_drop
-  row_drop_by_kind n e = kind_first (contains_key p.contents table) row_suited ((40, row_suited && not row_there) ∷ (42, is_mapped p table id) ∷ []) n refl refl e
+  pub row_drop_by_kind : (n : ℕ) → Some n ≡ of_kind (contains_key p.contents table)
+      (has_kind p.kinds table kinds.Attributes) [] → Some n ≡ why_row_drop
+  row_drop_by_kind n e = kind_first (contains_key p.contents table) row_suited
+      ((40, row_suited && not row_there) ∷ (42, is_mapped p table id) ∷ []) n refl refl e
 
   module _ (free : None ≡ of_kind (contains_key p.contents table) (has_kind p.kinds table kinds.Attributes) []) where
-    row_told : (there : Bool) → contains_key p.rows (item table id) ≡ there → why_row_drop ≡ of_row_drop true true there (is_mapped p table id)
+    row_told : (there : Bool) → contains_key p.rows (item table id) ≡ there
+        → why_row_drop ≡ of_row_drop true true there (is_mapped p table id)
     row_told there is =
         let k = kind_free (contains_key p.contents table) row_suited free in
-        ap (λ x. of_row_drop x row_suited row_there (is_mapped p table id)) k.0 ∙ ap (λ x. of_row_drop true x row_there (is_mapped p table id)) k.1 ∙ ap (λ x. of_row_drop true true x (is_mapped p table id)) is
+        ap (λ x. of_row_drop x row_suited row_there (is_mapped p table id)) k.0
+        ∙ ap (λ x. of_row_drop true x row_there (is_mapped p table id)) k.1
+        ∙ ap (λ x. of_row_drop true true x (is_mapped p table id)) is
 
     pub row_drop_40 : contains_key p.rows (item table id) ≡ false → Some 40 ≡ why_row_drop
     row_drop_40 gone = sym (row_told false gone ∙ first_of 40 ((42, is_mapped p table id) ∷ []) refl)
@@ -186,20 +216,28 @@ module _ (p : Package) (table : Text) (id : ℤ) where
   abbrev medium_there : Bool
   medium_there = contains_key p.media (item table id)
 
-  pub medium_drop_by_kind : (n : ℕ) → Some n ≡ of_kind (contains_key p.contents table) (has_kind p.kinds table kinds.Media) [] → Some n ≡ why_medium_drop
-  medium_drop_by_kind n e = kind_first (contains_key p.contents table) medium_suited ((41, medium_suited && not medium_there) ∷ (42, is_mapped p table id) ∷ []) n refl refl e
+  pub medium_drop_by_kind : (n : ℕ)
+      → Some n ≡ of_kind (contains_key p.contents table) (has_kind p.kinds table kinds.Media) []
+      → Some n ≡ why_medium_drop
+  medium_drop_by_kind n e = kind_first (contains_key p.contents table) medium_suited
+      ((41, medium_suited && not medium_there) ∷ (42, is_mapped p table id) ∷ []) n refl refl e
 
   module _ (free : None ≡ of_kind (contains_key p.contents table) (has_kind p.kinds table kinds.Media) []) where
-    medium_told : (there : Bool) → contains_key p.media (item table id) ≡ there → why_medium_drop ≡ of_medium_drop true true there (is_mapped p table id)
+    medium_told : (there : Bool) → contains_key p.media (item table id) ≡ there
+        → why_medium_drop ≡ of_medium_drop true true there (is_mapped p table id)
     medium_told there is =
         let k = kind_free (contains_key p.contents table) medium_suited free in
-        ap (λ x. of_medium_drop x medium_suited medium_there (is_mapped p table id)) k.0 ∙ ap (λ x. of_medium_drop true x medium_there (is_mapped p table id)) k.1 ∙ ap (λ x. of_medium_drop true true x (is_mapped p table id)) is
+        ap (λ x. of_medium_drop x medium_suited medium_there (is_mapped p table id)) k.0
+        ∙ ap (λ x. of_medium_drop true x medium_there (is_mapped p table id)) k.1
+        ∙ ap (λ x. of_medium_drop true true x (is_mapped p table id)) is
 
     pub medium_drop_41 : contains_key p.media (item table id) ≡ false → Some 41 ≡ why_medium_drop
     medium_drop_41 gone = sym (medium_told false gone ∙ first_of 41 ((42, is_mapped p table id) ∷ []) refl)
 
-    pub medium_drop_42 : contains_key p.media (item table id) ≡ true → is_mapped p table id ≡ true → Some 42 ≡ why_medium_drop
+    pub medium_drop_42 : contains_key p.media (item table id) ≡ true → is_mapped p table id ≡ true
+        → Some 42 ≡ why_medium_drop
     medium_drop_42 there is = sym (medium_told true there ∙ ap (of_medium_drop true true true) is)
 
-    pub medium_drop_free : contains_key p.media (item table id) ≡ true → is_mapped p table id ≡ false → None ≡ why_medium_drop
+    pub medium_drop_free : contains_key p.media (item table id) ≡ true → is_mapped p table id ≡ false
+        → None ≡ why_medium_drop
     medium_drop_free there is = sym (medium_told true there ∙ ap (of_medium_drop true true true) is)

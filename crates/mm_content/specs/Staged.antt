@@ -6,4 +6,5 @@ use Rattle.mm_definitions.specs.Package.{Package, PieceRow}
 
 -- the edition's piece of the number has these bytes
 abbrev pub HasBytes : Text → ℕ → List ℕ → Package → Type 0
-HasBytes edition number bytes p = (r : PieceRow) × (get p.pieces (piece edition (pos number)) ≡ Some r) × (r.bytes ≡ bytes)
+HasBytes edition number bytes p = (r : PieceRow) × (get p.pieces (piece edition (pos number)) ≡ Some r)
+    × (r.bytes ≡ bytes)

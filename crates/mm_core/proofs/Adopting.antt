@@ -1,5 +1,6 @@
 -- A connection that is looked at and then checked reads as it did before, and is settled where it was.
-use Rattle.std.proofs.Common.{◌≡◌, ℕ, inl, inr, Bool, true, false, Option, Some, None, Result, Ok, Err, refl, sym, subst, arith}
+use Rattle.std.proofs.Common.{◌≡◌, ℕ, inl, inr, Bool, true, false, Option, Some, None, Result, Ok, Err, refl, sym}
+use Rattle.std.proofs.Common.{subst, arith}
 use Rattle.sqlite.specs.State.{State, HasCleanDisk, IsUnchanged}
 use Rattle.mm_definitions.specs.Bounds.{Profile, current}
 use Rattle.mm_definitions.specs.Package.{Package}
@@ -19,7 +20,8 @@ use Rattle.mm_walk.proofs.Resting.{seen_still}
 use Rattle.mm_check.specs.Checked.{IsChecked, Judged, NoNumber, OnlyStoreFaults}
 use Rattle.mm_check.specs.Form.{TellsForm}
 use Rattle.mm_check.proofs.Reading.{told_as_before}
-use Rattle.mm_core.specs.Adopted.{IsAdopted, WasAdopted, IsOfThisVersion, Declines, DeclinesNone, TellsProfile, IsNotAdopted}
+use Rattle.mm_core.specs.Adopted.{IsAdopted, WasAdopted, IsOfThisVersion, Declines, DeclinesNone, TellsProfile}
+use Rattle.mm_core.specs.Adopted.{IsNotAdopted}
 use Rattle.std.specs.Prelude.{ℕ}
 
 -- so it is known of it later
@@ -32,7 +34,8 @@ was_adopted old mid new it early = record {
   meets = λ clean. it.meets (early clean);
 }
 
-module _ (old new : State) {result : Result (Unit {0}) Open} (looked : IsLooked old new result) (clean : HasCleanDisk new) where
+module _ (old new : State) {result : Result (Unit {0}) Open} (looked : IsLooked old new result)
+    (clean : HasCleanDisk new) where
   looked_seen : (profile : Profile) (p : Package) → IsSeenAs profile old p → IsSeenAs profile new p
   looked_seen profile p = seen_still profile old new p (looked.rests clean)
 
@@ -42,7 +45,8 @@ settled_as : (old new : State) → CommitsNothing old new
     → HasCleanDisk new → (profile : Profile) (p : Package) → IsSettled profile old p → IsSettled profile new p
 settled_as old new quiet same clean profile p it = settled_still profile old new p quiet clean (same clean profile p) it
 
-none_declined : (old new : State) (why : Open) → IsLooked old new (Err why) → HasCleanDisk new → IsBlank old → FindsNone old new (Err why)
+none_declined : (old new : State) (why : Open) → IsLooked old new (Err why) → HasCleanDisk new → IsBlank old
+    → FindsNone old new (Err why)
     → DeclinesNone new why
 none_declined old new opens.NoProfile looked clean it same = still_blank old new looked.survives same clean it
 none_declined old new (opens.Fault fault) looked clean it same = tt
@@ -53,14 +57,16 @@ none_declined old new (opens.Rule rule) looked clean it same = absurd same
 
 -- ---- a package that reads under a version and passes the look is of this profile
 
-same_seen : (profile : Profile) (s : State) (p : Package) → profile.version ≡ current.version → IsSeenAs profile s p → IsSeenAs current s p
+same_seen : (profile : Profile) (s : State) (p : Package) → profile.version ≡ current.version → IsSeenAs profile s p
+    → IsSeenAs current s p
 same_seen profile s p is it = record {
   mode = it.mode;
   back = λ up. subst (λ v. ReadsAs v s.committed p) is (it.back up);
   reads = λ up. subst (λ v. ReadsAs v s.now p) is (it.reads up);
 }
 
-seen_same : (profile : Profile) (s : State) (p : Package) → profile.version ≡ current.version → IsSeenAs current s p → IsSeenAs profile s p
+seen_same : (profile : Profile) (s : State) (p : Package) → profile.version ≡ current.version → IsSeenAs current s p
+    → IsSeenAs profile s p
 seen_same profile s p is it = record {
   mode = it.mode;
   back = λ up. subst (λ v. ReadsAs v s.committed p) (sym is) (it.back up);

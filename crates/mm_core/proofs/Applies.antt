@@ -45,7 +45,8 @@ session_settled g s p = (
 )
 
 module _ (old new : State) (c : Command) (moment : ℕ) (a : Answer) where
-  pub clean_so : (failed : Bool) → (failed ≡ true → new ≡ old) → (failed ≡ false → IsAppliedTo c moment old new a) → HasCleanDisk new → HasCleanDisk old
+  pub clean_so : (failed : Bool) → (failed ≡ true → new ≡ old) → (failed ≡ false → IsAppliedTo c moment old new a)
+      → HasCleanDisk new → HasCleanDisk old
   clean_so true ended applied clean = subst HasCleanDisk (ended refl) clean
   clean_so false ended applied clean = let h = (applied refl).survives.clean in omega (arith, h)
 
@@ -54,8 +55,8 @@ only_rehearsed : (p : Package) (c : Command) (moment : ℕ) → rehearses c ≡ 
 only_rehearsed p (commands.Rehearse edition) moment is = rehearse_same p edition moment
 only_rehearsed p _ moment is = absurd (let e : false ≡ true = is in cc)
 
--- A session that reads as a package, whatever a crash would leave: a database stands for a package, or it might be left before, and the
--- package is that one.
+-- A session that reads as a package, whatever a crash would leave: a database stands for a package, or it might be left
+-- before, and the package is that one.
 module _ (old new : State) (c : Command) (moment : ℕ) (p : Package) (reopen : Bool) where
   abbrev Stands : Trees → Package → Type 0
   Stands db q = (old.may_leave db × (q ≡ p)) ⊎ StandsForCurrent db q
@@ -68,7 +69,8 @@ module _ (old new : State) (c : Command) (moment : ℕ) (p : Package) (reopen : 
     stands_for = Stands;
   }
 
-  answered_so : (a : Answer) → IsAppliedTo c moment old new a → HasCleanDisk new → IsSeenFor old p → run.IsApplied p c moment a shown_now
+  answered_so : (a : Answer) → IsAppliedTo c moment old new a → HasCleanDisk new → IsSeenFor old p
+      → run.IsApplied p c moment a shown_now
   answered_so answer.Ok it clean ready =
       let (free, seen, lasting) = it.seen clean p ready in (
         free,
@@ -84,18 +86,26 @@ module _ (old new : State) (c : Command) (moment : ℕ) (p : Package) (reopen : 
         ),
       )
   answered_so (answer.Refused why) it clean ready =
-      let (is, seen) = it.seen clean p ready in
-      (is, (seen, λ db may. elim (it.survives.crash clean db may) [ inl before ↦ inl (before, refl) | inr none ↦ absurd none ]))
+      let (is, seen) = it.seen clean p ready in (
+        is,
+        (
+          seen,
+          λ db may. elim (it.survives.crash clean db may)
+              [ inl before ↦ inl (before, refl) | inr none ↦ absurd none ],
+        ),
+      )
   answered_so (answer.Fault fault) it clean ready = λ db may. elim (it.survives.crash clean db may) [
     | inl before ↦ inl (inl (before, refl))
     | inr done ↦ let next = done p ready in inr (next.0, inr next.1)
   ]
 
-  pub applied_seen : (a : Answer) (failed : Bool) → (failed ≡ true → (a ≡ answer.Fault (record { 0 = 92 })) × (new ≡ old))
+  pub applied_seen : (a : Answer) (failed : Bool)
+      → (failed ≡ true → (a ≡ answer.Fault (record { 0 = 92 })) × (new ≡ old))
       → (failed ≡ false → IsAppliedTo c moment old new a)
       → HasCleanDisk new → IsSeenAs current old p → Meets current p
       → run.IsApplied p c moment a shown_now
   applied_seen a true ended applied clean seen meets =
       let it = ended refl in
       rw it.0 (λ db may. inl (inl (subst (λ (s : State). s.may_leave db) it.1 may, refl)))
-  applied_seen a false ended applied clean seen meets = answered_so a (applied refl) clean (record { seen = seen; meets = meets })
+  applied_seen a false ended applied clean seen meets = answered_so a (applied refl) clean
+      (record { seen = seen; meets = meets })

@@ -23,14 +23,17 @@ abbrev pub IsFresh : State → Type 0
 IsFresh s = Opens s × IsLive s × ((db : Trees) → s.may_leave db → db ≡ s.committed.trees)
 
 -- a database that stands for a package has the profile's schema, whatever schema its connection found in it
-reads_by : (profile : Profile) (db : Database) (p : Package) → IsDatabase db → StandsFor profile.version db.trees p → ReadsAs profile.version db p
+reads_by : (profile : Profile) (db : Database) (p : Package) → IsDatabase db → StandsFor profile.version db.trees p
+    → ReadsAs profile.version db p
 reads_by profile db p sound stands = record {
-  schema_is = ∥∥₁_elim stands.sound (Coded-set schema.the_row.coded db.schema tables.schema) (λ of_profile. lists_once _ db.schema tables.schema sound.lists of_profile.lists);
+  schema_is = ∥∥₁_elim stands.sound (Coded-set schema.the_row.coded db.schema tables.schema)
+      (λ of_profile. lists_once _ db.schema tables.schema sound.lists of_profile.lists);
   stands = stands;
 }
 
 -- it is settled for what its database stands for
-pub opened_settles : (s : State) → IsFresh s → (profile : Profile) (p : Package) → StandsFor profile.version s.committed.trees p → IsSettled profile s p
+pub opened_settles : (s : State) → IsFresh s → (profile : Profile) (p : Package)
+    → StandsFor profile.version s.committed.trees p → IsSettled profile s p
 opened_settles s (opens, live, law) profile p stands =
     let now = live opens.is_open in
     let reads = reads_by profile s.committed p now.1 stands in
@@ -43,7 +46,8 @@ opened_settles s (opens, live, law) profile p stands =
 
 -- one that lists no table has the empty schema
 none_by : (db : Database) → IsDatabase db → HasNoTable db.trees → db.schema ≡ no_schema
-none_by db sound none = ∥∥₁_elim none (Coded-set schema.the_row.coded db.schema no_schema) (λ empty. lists_once _ db.schema no_schema sound.lists empty.lists)
+none_by db sound none = ∥∥₁_elim none (Coded-set schema.the_row.coded db.schema no_schema)
+    (λ empty. lists_once _ db.schema no_schema sound.lists empty.lists)
 
 -- without a table where its database has none
 pub opened_blank : (s : State) → IsFresh s → HasNoTable s.committed.trees → IsBlank s

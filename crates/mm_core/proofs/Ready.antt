@@ -20,12 +20,14 @@ same_err {A = A} {a = a} e = ap fault e where
   fault (Err b) = b
 
 -- one that is not answers 92
-pub unready_ended : (failed : Bool) (fault : Fault) → readiness failed ≡ Err fault → (failed ≡ true) × (fault ≡ record { 0 = 92 })
+pub unready_ended : (failed : Bool) (fault : Fault) → readiness failed ≡ Err fault → (failed ≡ true)
+    × (fault ≡ record { 0 = 92 })
 unready_ended true fault e = (refl, sym (same_err e))
 unready_ended false fault e = absurd (let clash : ◌≡◌ {A = Result ⊤ Fault} (Ok tt) (Err fault) = e in cc)
 
 -- a read that began with the test: the session is not touched
-pub not_read : {S A : Type 0} {g : Ghosts S} (s : Session S g) (fault : Fault) (Shows : State → State → Type 0) → readiness (must_reopen s) ≡ Err fault
+pub not_read : {S A : Type 0} {g : Ghosts S} (s : Session S g) (fault : Fault) (Shows : State → State → Type 0)
+    → readiness (must_reopen s) ≡ Err fault
     → Reads {A = A} g s s (Err fault) Shows
 not_read s fault Shows e =
     let was = unready_ended (must_reopen s) fault e in

@@ -36,7 +36,8 @@ tried : {S : Type 0} {g : Ghosts S} {a b : Transaction S} {c : Command} {r : Res
 tried {g = g} {b = b} {c = c} {r = r} moment h = record {
   survives = h.survives;
   on = λ clean ground p it. h.on clean current ground p it.inside it.meets;
-  tries = λ clean ground p it. told (state g b.conn.now) ground p c moment r (h.comes clean current ground p it.inside it.meets);
+  tries = λ clean ground p it. told (state g b.conn.now) ground p c moment r
+      (h.comes clean current ground p it.inside it.meets);
   faults = h.faults;
 }
 
@@ -45,7 +46,8 @@ module _ {S : Type 0} {g : Ghosts S} {a b : Transaction S} {c : Command} {at : T
   tries h = record {
     same = h.goes.same;
     tried = λ moment stamped. tried {c = c} moment
-        (goes_less h.goes (λ profile p it meets says. (ap (λ text. step_at p c text) (sym (stamp_only moment at stamped)), says)));
+        (goes_less h.goes (λ profile p it meets says.
+        (ap (λ text. step_at p c text) (sym (stamp_only moment at stamped)), says)));
   }
 
   pub tries_unstamped : Applies g a b c r → TriesCommand g a b c at r

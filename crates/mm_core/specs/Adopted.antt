@@ -17,10 +17,12 @@ use Rattle.mm_check.specs.Form.{BlobsStand, TellsForm}
 
 -- no package of another version is read
 abbrev pub IsOfThisVersion : State → Type 0
-IsOfThisVersion s = (version : ℤ) (p : Package) → (IsTrue s.is_open → ReadsAs version s.now p) → version ≡ current.version
+IsOfThisVersion s = (version : ℤ) (p : Package) → (IsTrue s.is_open → ReadsAs version s.now p)
+    → version ≡ current.version
 
--- It wrote nothing, the store is open, and the profile's table shows this profile's row alone, so there is a table. The blobs
--- have their form. It reads as the package that it read as, which meets the rules, and is settled for it where it was.
+-- It wrote nothing, the store is open, and the profile's table shows this profile's row alone, so there is a table. The
+-- blobs have their form. It reads as the package that it read as, which meets the rules, and is settled for it where it
+-- was.
 pub record IsAdopted (old new : State) : Type 0 where
   pub survives : CommitsNothing old new
   pub is_open : HasCleanDisk new → IsTrue new.is_open
@@ -32,8 +34,8 @@ pub record IsAdopted (old new : State) : Type 0 where
   pub settled : HasCleanDisk new → (p : Package) → IsSettled current old p → IsSettled current new p
   pub meets : HasCleanDisk new → (p : Package) → IsSeenAs current old p → Meets current p
 
--- It was adopted before it became what it is now: so its profile's table shows this profile's row alone, there is a table, its blobs
--- have their form, and a package meets the rules.
+-- It was adopted before it became what it is now: so its profile's table shows this profile's row alone, there is a
+-- table, its blobs have their form, and a package meets the rules.
 pub record WasAdopted (old new : State) : Type 0 where
   pub row : HasCleanDisk new → ShowsProfile current.version old
   pub some : HasCleanDisk new → IsBlank old → ⊥
@@ -60,8 +62,8 @@ DeclinesNone new opens.NoProfile = IsBlank new
 DeclinesNone new (opens.Fault fault) = ⊤
 DeclinesNone new _ = ⊥
 
--- It wrote nothing, and tells why it adopts no package. In whatever profile it reads as a package or is settled for one, it does so
--- still.
+-- It wrote nothing, and tells why it adopts no package. In whatever profile it reads as a package or is settled for
+-- one, it does so still.
 pub record IsNotAdopted (old new : State) (why : Open) : Type 0 where
   pub survives : CommitsNothing old new
   pub profile : HasCleanDisk new → TellsProfile old new why

@@ -12,17 +12,18 @@ use Rattle.mm_meta.specs.Opening.{IsBlank, HasNoTable, HasTables}
 abbrev pub MayMake : State → Trees → Type 0
 MayMake old db = IsBlank old → StandsFor current.version db opening
 
--- The store is open, and settled for a new package where no database that might be left had a table. Where the tables of a package
--- stood already nothing was committed.
+-- The store is open, and settled for a new package where no database that might be left had a table. Where the tables
+-- of a package stood already nothing was committed.
 pub record IsCreated (old new : State) : Type 0 where
   pub survives : Survives old new (MayMake old)
   pub is_open : HasCleanDisk new → IsTrue new.is_open
   pub settled : HasCleanDisk new → IsBlank old → IsSettled current new opening
   pub stays : HasTables old → CommitsNothing old new
 
--- Each database that may be left has no table, or stands for a new package. Where the tables of a package stood already nothing was
--- committed.
+-- Each database that may be left has no table, or stands for a new package. Where the tables of a package stood already
+-- nothing was committed.
 pub record IsNotCreated (old new : State) : Type 0 where
   pub survives : Survives old new (MayMake old)
-  pub left : HasCleanDisk new → IsBlank old → (db : Trees) → new.may_leave db → HasNoTable db ⊎ StandsFor current.version db opening
+  pub left : HasCleanDisk new → IsBlank old → (db : Trees) → new.may_leave db → HasNoTable db
+      ⊎ StandsFor current.version db opening
   pub stays : HasTables old → CommitsNothing old new

@@ -1,5 +1,6 @@
 -- Names and other ASCII texts are UTF-8 without byte 0.
-use Rattle.std.proofs.Common.{◌≡◌, ℕ, zero, suc, ◌<◌, Bool, true, false, not, ◌||◌, [], ◌∷◌, nat_le, nat_lt, refl, ap, ◌∙◌, arith}
+use Rattle.std.proofs.Common.{◌≡◌, ℕ, zero, suc, ◌<◌, Bool, true, false, not, ◌||◌, [], ◌∷◌, nat_le, nat_lt, refl, ap}
+use Rattle.std.proofs.Common.{◌∙◌, arith}
 use Rattle.std.proofs.lemmas.Bool.Decides.{nat_tests}
 use Rattle.std.proofs.lemmas.List.Elements.{All-from_recursion}
 use Rattle.std.proofs.lemmas.Str.{IsUtf8-from_ascii}
@@ -18,7 +19,8 @@ is_low c e = grind (arith, nat_tests)
 
 all_low : (text : Text) → list_any is_beyond_ascii text ≡ false → AllByRecursion (λ c. c < 128) text
 all_low [] e = tt
-all_low (c ∷ cs) e = let p = either_false (is_beyond_ascii c) (list_any is_beyond_ascii cs) e in (is_low c p.0, all_low cs p.1)
+all_low (c ∷ cs) e = let p = either_false (is_beyond_ascii c) (list_any is_beyond_ascii cs) e in
+    (is_low c p.0, all_low cs p.1)
 
 pub ascii_is_clean : (text : Text) → list_any is_beyond_ascii text ≡ false → has_zero text ≡ false → IsClean text
 ascii_is_clean text low none = record {
@@ -27,7 +29,8 @@ ascii_is_clean text low none = record {
 }
 
 -- a test that is true of fewer bytes
-pub none_of_fewer : (test fewer : ℕ → Bool) → ((c : ℕ) → test c ≡ false → fewer c ≡ false) → (text : Text) → list_any test text ≡ false
+pub none_of_fewer : (test fewer : ℕ → Bool) → ((c : ℕ) → test c ≡ false → fewer c ≡ false) → (text : Text)
+    → list_any test text ≡ false
     → list_any fewer text ≡ false
 none_of_fewer test fewer so [] e = refl
 none_of_fewer test fewer so (c ∷ cs) e =

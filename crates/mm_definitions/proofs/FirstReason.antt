@@ -16,7 +16,8 @@ both_least n (Some m) (Some q) h k = omega arith
 
 at_least : (n : ℕ) (rs : Reasons) → list_all (λ r. nat_le n r.0) rs ≡ true → AtLeast n (least rs)
 at_least n [] h = tt
-at_least n (r ∷ rs) h = let parts = and_parts (nat_le n r.0) _ h in both_least n (cond r.1 (Some r.0) None) (least rs) (one r.0 r.1 parts.0) (at_least n rs parts.1)
+at_least n (r ∷ rs) h = let parts = and_parts (nat_le n r.0) _ h in both_least n (cond r.1 (Some r.0) None) (least rs)
+    (one r.0 r.1 parts.0) (at_least n rs parts.1)
   where
     one : (m : ℕ) (b : Bool) → nat_le n m ≡ true → AtLeast n (cond b (Some m) None)
     one m true h = grind arith

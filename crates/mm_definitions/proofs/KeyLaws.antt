@@ -6,7 +6,8 @@ use Rattle.std.specs.Ordering.{int_cmp, ordering_then}
 use Rattle.std.specs.Option.{option_cmp}
 use Rattle.std.specs.Cmp.{int_cmp_total, on_total, then_total}
 use Rattle.std.specs.Cmp.Lexicographic.{nat_list_cmp_total, options_total}
-use Rattle.std.specs.FinMap.{IsAntisymmetric, nat_cmp-IsAntisymmetric, int_cmp-IsAntisymmetric, slice_cmp-IsAntisymmetric}
+use Rattle.std.specs.FinMap.{IsAntisymmetric, nat_cmp-IsAntisymmetric, int_cmp-IsAntisymmetric}
+use Rattle.std.specs.FinMap.{slice_cmp-IsAntisymmetric}
 use Rattle.mm_definitions.specs.Keys.{Text, text_cmp, Level, level_cmp, level, TileKey, tile_cmp, tile, Item}
 use Rattle.mm_definitions.specs.Keys.{item_cmp, item, Pairing, pairing_cmp, pairing, PieceKey, piece_cmp, piece}
 use Rattle.mm_definitions.specs.Keys.{Extension, extension_cmp}
@@ -33,7 +34,8 @@ maybe_texts = record { total = options_total texts.total; exact = exact } where
 
 -- a key of two parts, from which it can be made again
 module _ {K A B : Type 0} {R : A → A → Ordering} {S : B → B → Ordering} where
-  pub by_parts : (f : K → A) (g : K → B) (back : A → B → K) → ((k : K) → back (f k) (g k) ≡ k) → IsKeyOrder R → IsKeyOrder S
+  pub by_parts : (f : K → A) (g : K → B) (back : A → B → K) → ((k : K) → back (f k) (g k) ≡ k) → IsKeyOrder R
+      → IsKeyOrder S
       → IsKeyOrder (λ (x y : K). ordering_then (R (f x) (f y)) (S (g x) (g y)))
   by_parts f g back same r s = record {
     total = then_total (on_total f r.total) (on_total g s.total);
@@ -65,13 +67,16 @@ pub piece_keys : IsKeyOrder piece_cmp
 piece_keys = by_parts (λ (k : PieceKey). k.edition) (λ (k : PieceKey). k.number) piece (λ k. refl) texts numbers
 
 pub pairing_keys : IsKeyOrder pairing_cmp
-pairing_keys = by_parts (λ (k : Pairing). k.mapping) (λ (k : Pairing). (k.base_id, k.related_id)) (λ a (p : ℤ × ℤ). pairing a p.0 p.1) (λ k. refl) texts (in_pairs numbers numbers)
+pairing_keys = by_parts (λ (k : Pairing). k.mapping) (λ (k : Pairing). (k.base_id, k.related_id))
+    (λ a (p : ℤ × ℤ). pairing a p.0 p.1) (λ k. refl) texts (in_pairs numbers numbers)
 
 pub tile_keys : IsKeyOrder tile_cmp
 tile_keys = by_parts (λ (k : TileKey). k.table) (λ (k : TileKey). (k.zoom, (k.column, k.row)))
     (λ a (p : ℤ × (ℤ × ℤ)). tile a p.0 p.1.0 p.1.1) (λ k. refl) texts (in_pairs numbers (in_pairs numbers numbers))
 
 pub extension_keys : IsKeyOrder extension_cmp
-extension_keys = by_parts (λ (k : Extension). k.table) (λ (k : Extension). (k.column, (k.name, (k.definition, k.scope))))
-    (λ a (p : Option Text × (Text × (Text × Text))). record { table = a; column = p.0; name = p.1.0; definition = p.1.1.0; scope = p.1.1.1 }) (λ k. refl) maybe_texts
+extension_keys = by_parts (λ (k : Extension). k.table)
+    (λ (k : Extension). (k.column, (k.name, (k.definition, k.scope))))
+    (λ a (p : Option Text × (Text × (Text × Text))). record
+    { table = a; column = p.0; name = p.1.0; definition = p.1.1.0; scope = p.1.1.1 }) (λ k. refl) maybe_texts
     (in_pairs maybe_texts (in_pairs texts (in_pairs texts texts)))

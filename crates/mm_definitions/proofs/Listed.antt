@@ -1,5 +1,6 @@
 -- What holds of each entry of a finite map holds along the list of its entries.
-use Rattle.std.proofs.Common.{◌≡◌, Bool, true, false, cond, ◌&&◌, ◌||◌, List, [], ◌∷◌, Some, None, refl, ap, ◌∙◌, inl, inr}
+use Rattle.std.proofs.Common.{◌≡◌, Bool, true, false, cond, ◌&&◌, ◌||◌, List, [], ◌∷◌, Some, None, refl, ap, ◌∙◌, inl}
+use Rattle.std.proofs.Common.{inr}
 use Rattle.std.specs.Prelude.{T}
 use Rattle.std.specs.declared.cmp.Ordering.{Ordering}
 use Rattle.std.specs.declared.cmp.Ordering.TheVariants.{Less, Equal, Greater}
@@ -19,7 +20,8 @@ and_both true b p q = q
 and_both false b p q = p
 
 -- a test that is false of each element is true of none
-pub none_along : {A : Type 0} (test : A → Bool) (es : List A) → AllByRecursion (λ e. test e ≡ false) es → list_any test es ≡ false
+pub none_along : {A : Type 0} (test : A → Bool) (es : List A) → AllByRecursion (λ e. test e ≡ false) es
+    → list_any test es ≡ false
 none_along test [] h = refl
 none_along test (e ∷ es) h = ap (λ b. b || list_any test es) h.0 ∙ none_along test es h.1
 
@@ -35,7 +37,8 @@ module _ {K X : Type 0} {R : K → K → Ordering} (o : IsKeyOrder R) where
       let p = and_parts (is_lt (R q e.0)) (below_all R q es) h in
       ap (λ b. cond b (Some e.1) (find R q es)) (not_tied (R q e.0) p.0) ∙ nowhere q es p.1
 
-  all_found : (P : K → X → Type 0) (es : List (K × X)) → T (is_sorted R es) → ((q : K) (x : X) → find R q es ≡ Some x → P q x)
+  all_found : (P : K → X → Type 0) (es : List (K × X)) → T (is_sorted R es)
+      → ((q : K) (x : X) → find R q es ≡ Some x → P q x)
       → AllByRecursion (λ e. P e.0 e.1) es
   all_found P [] s h = tt
   all_found P (e ∷ es) s h =

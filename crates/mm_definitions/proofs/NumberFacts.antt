@@ -17,7 +17,8 @@ unfolding value_from
 value-step n i digits lt = rw (drop_more digits i 0 lt) refl
 
 -- a number that doesn't fit 64 bits is outside two that do
-pub outside : (z least most : ℤ) → ¬ (FitsSigned w64 z) → FitsSigned w64 least → FitsSigned w64 most → (z <ℤ least) ⊎ (most <ℤ z)
+pub outside : (z least most : ℤ) → ¬ (FitsSigned w64 z) → FitsSigned w64 least → FitsSigned w64 most → (z <ℤ least)
+    ⊎ (most <ℤ z)
 outside z least most unfit a b = grind (arith, ints)
 
 pub too-high : (negative : Bool) (v : ℕ) → 2 ^ 64 ≤ v → ¬ (FitsSigned w64 (signed negative v))

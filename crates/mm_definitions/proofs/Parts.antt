@@ -1,5 +1,6 @@
 -- Laws of finite maps whose order tells all keys apart.
-use Rattle.std.proofs.Common.{◌≡◌, ◌≢◌, Bool, true, false, cond, ◌||◌, List, [], ◌∷◌, Option, Some, None, is_some, refl, sym, ap, subst, ◌∙◌, ◌⊎◌, inl, inr}
+use Rattle.std.proofs.Common.{◌≡◌, ◌≢◌, Bool, true, false, cond, ◌||◌, List, [], ◌∷◌, Option, Some, None, is_some, refl}
+use Rattle.std.proofs.Common.{sym, ap, subst, ◌∙◌, ◌⊎◌, inl, inr}
 use Rattle.std.specs.declared.cmp.Ordering.{Ordering}
 use Rattle.std.specs.declared.cmp.Ordering.TheVariants.{Equal}
 use Rattle.std.specs.Ordering.{eq_by_cmp, is_eq}
@@ -37,7 +38,11 @@ not_none e f = let g : Some _ ≡ None = sym e ∙ f in cc
 pub same_key : {K : Type 0} {R : K → K → Ordering} → IsKeyOrder R → (a b : K) → SameKey R a b
 same_key {K} {R} o a b = elim (eq_by_cmp R a b) as (λ t. eq_by_cmp R a b ≡ t → SameKey R a b) [
   | true ↦ λ e. inl (o.exact a b ((Equal-is (R a b)).0 e), e)
-  | false ↦ λ e. inr (λ s. let t : eq_by_cmp R a a ≡ true = ap is_eq (tied_itself o.total a) in let f : eq_by_cmp R a a ≡ false = ap (eq_by_cmp R a) s ∙ e in let g : true ≡ false = sym t ∙ f in cc, e)
+  | false ↦ λ e. inr (
+    λ s. let t : eq_by_cmp R a a ≡ true = ap is_eq (tied_itself o.total a) in let f : eq_by_cmp R a a
+        ≡ false = ap (eq_by_cmp R a) s ∙ e in let g : true ≡ false = sym t ∙ f in cc,
+    e,
+  )
 ] refl
 
 pub same_itself : {K : Type 0} {R : K → K → Ordering} → IsKeyOrder R → (a : K) → eq_by_cmp R a a ≡ true
@@ -70,7 +75,8 @@ module _ {K X : Type 0} {R : K → K → Ordering} (o : IsKeyOrder R) where
   beside_put m k v q n = get-insert o.total m k v q ∙ ap (λ b. cond b (Some v) (get m q)) (apart o q k n)
 
   -- an entry after a put is the new one, or was there
-  pub after_put : (m : FinMap R X) (k : K) (v : X) (q : K) (x : X) → get (insert m k v) q ≡ Some x → ((q ≡ k) × (v ≡ x)) ⊎ ((q ≢ k) × (get m q ≡ Some x))
+  pub after_put : (m : FinMap R X) (k : K) (v : X) (q : K) (x : X) → get (insert m k v) q ≡ Some x → ((q ≡ k) × (v ≡ x))
+      ⊎ ((q ≢ k) × (get m q ≡ Some x))
   after_put m k v q x e = elim (same_key o q k) as (λ _. ((q ≡ k) × (v ≡ x)) ⊎ ((q ≢ k) × (get m q ≡ Some x))) [
     | inl s ↦ inl (s.0, same_some (sym (get-insert o.total m k v q ∙ ap (λ b. cond b (Some v) (get m q)) s.1) ∙ e))
     | inr n ↦ inr (n.0, sym (beside_put m k v q n.0) ∙ e)
@@ -114,7 +120,8 @@ module _ {K X : Type 0} {R : K → K → Ordering} (o : IsKeyOrder R) where
   let_go m p q t = at_retain m p q ∙ ap (λ b. cond b (get m q) None) t
 
   -- an entry that was kept passes the test, and was there
-  pub after_retain : (m : FinMap R X) (p : K → Bool) (q : K) (x : X) → get (retain_keys m p) q ≡ Some x → (p q ≡ true) × (get m q ≡ Some x)
+  pub after_retain : (m : FinMap R X) (p : K → Bool) (q : K) (x : X) → get (retain_keys m p) q ≡ Some x → (p q ≡ true)
+      × (get m q ≡ Some x)
   after_retain m p q x e = elim (true_or_false (p q)) as (λ _. (p q ≡ true) × (get m q ≡ Some x)) [
     | inl t ↦ (t, sym (kept m p q t) ∙ e)
     | inr f ↦ absurd (not_none e (let_go m p q f))
@@ -123,12 +130,14 @@ module _ {K X : Type 0} {R : K → K → Ordering} (o : IsKeyOrder R) where
   pub each_retain : (m : FinMap R X) (p : K → Bool) (P : K → X → Type 0) → Each m P → Each (retain_keys m p) P
   each_retain m p P h q x e = h q x (after_retain m p q x e).1
 
-  unsome : (test : K → X → Bool) (es : List (K × X)) (q : K) (x : X) → list_any (λ e. test e.0 e.1) es ≡ false → find R q es ≡ Some x → test q x ≡ false
+  unsome : (test : K → X → Bool) (es : List (K × X)) (q : K) (x : X) → list_any (λ e. test e.0 e.1) es ≡ false
+      → find R q es ≡ Some x → test q x ≡ false
   unsome test [] q x none e = absurd (let f : None ≡ Some x = e in cc)
   unsome test (p ∷ es) q x none e =
       let parts = either_false (test p.0 p.1) _ none in
       elim (same_key o q p.0) as (λ _. test q x ≡ false) [
-        | inl s ↦ let v : p.1 ≡ x = same_some (sym (ap (λ b. cond b (Some p.1) (find R q es)) s.1) ∙ e) in subst (λ y. test q y ≡ false) v (subst (λ r. test r p.1 ≡ false) (sym s.0) parts.0)
+        | inl s ↦ let v : p.1 ≡ x = same_some (sym (ap (λ b. cond b (Some p.1) (find R q es)) s.1) ∙ e) in subst
+            (λ y. test q y ≡ false) v (subst (λ r. test r p.1 ≡ false) (sym s.0) parts.0)
         | inr n ↦ unsome test es q x parts.1 (sym (ap (λ b. cond b (Some p.1) (find R q es)) n.1) ∙ e)
       ]
 
@@ -138,15 +147,17 @@ module _ {K X : Type 0} {R : K → K → Ordering} (o : IsKeyOrder R) where
   no_entry test m none q x e = unsome test (entries m) q x none (sym (get-entries m q) ∙ e)
 
   -- a put under a new key leaves each entry
-  pub kept_by_new : (m : FinMap R X) (k : K) (v : X) → contains_key m k ≡ false → (q : K) (x : X) → Has m q x → Has (insert m k v) q x
+  pub kept_by_new : (m : FinMap R X) (k : K) (v : X) → contains_key m k ≡ false → (q : K) (x : X) → Has m q x
+      → Has (insert m k v) q x
   kept_by_new m k v new q x e = beside_put m k v q (λ s. not_none e (ap (get m) s ∙ none_of (get m k) new)) ∙ e
 
   -- an entry that is put again changes nothing
   pub put_again : (m : FinMap R X) (k : K) (v : X) → Has m k v → insert m k v ≡ m
-  put_again m k v there = same_map o.total o.exact (insert m k v) m (λ q. elim (same_key o q k) as (λ _. get (insert m k v) q ≡ get m q) [
-    | inl s ↦ ap (get (insert m k v)) s.0 ∙ at_put m k v ∙ sym there ∙ sym (ap (get m) s.0)
-    | inr n ↦ beside_put m k v q n.0
-  ])
+  put_again m k v there = same_map o.total o.exact (insert m k v) m
+      (λ q. elim (same_key o q k) as (λ _. get (insert m k v) q ≡ get m q) [
+        | inl s ↦ ap (get (insert m k v)) s.0 ∙ at_put m k v ∙ sym there ∙ sym (ap (get m) s.0)
+        | inr n ↦ beside_put m k v q n.0
+      ])
 
   -- what was absent still is, after a removal
   pub absent_after_remove : (m : FinMap R X) (k q : K) → get m q ≡ None → get (remove m k) q ≡ None

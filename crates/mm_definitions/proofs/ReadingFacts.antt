@@ -60,10 +60,12 @@ not_against (OneOf words) t (Plain v) n h a = a.1 h.1
 not_against (OneOf words) t (Whole v) n h a = h
 not_against (NumberFrom low high) t (Plain v) n h a = h
 not_against (NumberFrom low high) t (Whole z) n h (inl a) = a.1 z h.0
-not_against (NumberFrom low high) t (Whole z) n h (inr a) = within_not_beyond low high z a.1 (spells_one t z a.1 h.0 a.2) h.1 a.3
+not_against (NumberFrom low high) t (Whole z) n h (inr a) = within_not_beyond low high z a.1
+    (spells_one t z a.1 h.0 a.2) h.1 a.3
 not_against (BytesTo most) t (Whole v) n h a = h
 not_against (BytesTo most) t (Plain v) n h (inl a) = not_both (decode_of t) v h.0 a.1
-not_against (BytesTo most) t (Plain v) n h (inr a) = a.3 (subst (IsLong 1 most) (one_value (decode_of t) v a.1 h.0 a.2) h.1)
+not_against (BytesTo most) t (Plain v) n h (inr a) =
+    a.3 (subst (IsLong 1 most) (one_value (decode_of t) v a.1 h.0 a.2) h.1)
 not_against (TextOf least most) t (Whole v) n h a = h
 not_against (TextOf least most) t (Plain v) n h a = a.1 h.1
 not_against AnIdentifier t (Whole v) n h a = h
@@ -89,7 +91,8 @@ one_against AContentType t n m a b = a.0 ∙ sym b.0
 one_against AName t n m a b = a.0 ∙ sym b.0
 
 -- ---- one field, and then more
-pub none_against : (fs : List Field) (ts : List Text) (vs : List Value) (n : ℕ) → AllHold fs ts vs → IsAgainstSome fs ts n → ⊥
+pub none_against : (fs : List Field) (ts : List Text) (vs : List Value) (n : ℕ) → AllHold fs ts vs
+    → IsAgainstSome fs ts n → ⊥
 none_against [] [] [] n h a = a
 none_against [] [] (v ∷ vs) n h a = h
 none_against [] (t ∷ ts) vs n h a = h
@@ -98,7 +101,8 @@ none_against (f ∷ fs) (t ∷ ts) [] n h a = h
 none_against (f ∷ fs) (t ∷ ts) (v ∷ vs) n h (inl a) = not_against f t v n h.0 a
 none_against (f ∷ fs) (t ∷ ts) (v ∷ vs) n h (inr a) = none_against fs ts vs n h.1 a
 
-pub read_last : {A : Type 0} (value : A → Value) (f : Field) (t : Text) (a : Result A ReadFault) → ReadsTo (λ x. HoldsValue f t (value x)) (IsAgainst f t) a
+pub read_last : {A : Type 0} (value : A → Value) (f : Field) (t : Text) (a : Result A ReadFault)
+    → ReadsTo (λ x. HoldsValue f t (value x)) (IsAgainst f t) a
     → ReadsTo (λ x. AllHold (f ∷ []) (t ∷ []) (value x ∷ [])) (IsLeast (IsAgainstSome (f ∷ []) (t ∷ []))) a
 read_last value f t (Ok x) h = (h, tt)
 read_last value f t (Err faults.Memory) h = tt
@@ -108,7 +112,8 @@ read_last value f t (Err (faults.Refused r)) h = (h.0, record { is_held = inl h.
     least m (inl b) = let e : r.number ≡ m = one_against f t r.number m h.1 b in omega (arith, e)
     least m (inr b) = absurd b
 
-pub first_holds : (f : Field) (fs : List Field) (t : Text) (ts : List Text) (v : Value) (n : ℕ) → HoldsValue f t v → IsLeast (IsAgainstSome fs ts) n
+pub first_holds : (f : Field) (fs : List Field) (t : Text) (ts : List Text) (v : Value) (n : ℕ) → HoldsValue f t v
+    → IsLeast (IsAgainstSome fs ts) n
     → IsLeast (IsAgainstSome (f ∷ fs) (t ∷ ts)) n
 first_holds f fs t ts v n h l = record { is_held = inr l.is_held; is_least = least }
   where
@@ -116,7 +121,8 @@ first_holds f fs t ts v n h l = record { is_held = inr l.is_held; is_least = lea
     least m (inl b) = absurd (not_against f t v m h b)
     least m (inr b) = l.is_least m b
 
-pub rest_holds : (f : Field) (fs : List Field) (t : Text) (ts : List Text) (vs : List Value) (n : ℕ) → IsAgainst f t n → AllHold fs ts vs
+pub rest_holds : (f : Field) (fs : List Field) (t : Text) (ts : List Text) (vs : List Value) (n : ℕ) → IsAgainst f t n
+    → AllHold fs ts vs
     → IsLeast (IsAgainstSome (f ∷ fs) (t ∷ ts)) n
 rest_holds f fs t ts vs n a h = record { is_held = inl a; is_least = least }
   where
@@ -124,7 +130,8 @@ rest_holds f fs t ts vs n a h = record { is_held = inl a; is_least = least }
     least m (inl b) = let e : n ≡ m = one_against f t n m a b in omega (arith, e)
     least m (inr b) = absurd (none_against fs ts vs m h b)
 
-pub first_lower : (f : Field) (fs : List Field) (t : Text) (ts : List Text) (n k : ℕ) → IsAgainst f t n → IsLeast (IsAgainstSome fs ts) k → n ≤ k
+pub first_lower : (f : Field) (fs : List Field) (t : Text) (ts : List Text) (n k : ℕ) → IsAgainst f t n
+    → IsLeast (IsAgainstSome fs ts) k → n ≤ k
     → IsLeast (IsAgainstSome (f ∷ fs) (t ∷ ts)) n
 first_lower f fs t ts n k a l low = record { is_held = inl a; is_least = least }
   where
@@ -132,7 +139,8 @@ first_lower f fs t ts n k a l low = record { is_held = inl a; is_least = least }
     least m (inl b) = let e : n ≡ m = one_against f t n m a b in omega (arith, e)
     least m (inr b) = omega (arith, low, l.is_least m b)
 
-pub rest_lower : (f : Field) (fs : List Field) (t : Text) (ts : List Text) (n k : ℕ) → IsAgainst f t n → IsLeast (IsAgainstSome fs ts) k → k ≤ n
+pub rest_lower : (f : Field) (fs : List Field) (t : Text) (ts : List Text) (n k : ℕ) → IsAgainst f t n
+    → IsLeast (IsAgainstSome fs ts) k → k ≤ n
     → IsLeast (IsAgainstSome (f ∷ fs) (t ∷ ts)) k
 rest_lower f fs t ts n k a l low = record { is_held = inr l.is_held; is_least = least }
   where
@@ -140,17 +148,28 @@ rest_lower f fs t ts n k a l low = record { is_held = inr l.is_held; is_least = 
     least m (inl b) = let e : n ≡ m = one_against f t n m a b in omega (arith, e, low)
     least m (inr b) = l.is_least m b
 
-module _ {A B : Type 0} (value : A → Value) (values : B → List Value) (f : Field) (fs : List Field) (t : Text) (ts : List Text) where
+module _ {A B : Type 0} (value : A → Value) (values : B → List Value) (f : Field) (fs : List Field) (t : Text)
+    (ts : List Text) where
   abbrev pub Reads : Result (A × B) ReadFault → Type 0
   Reads = ReadsTo (λ p. AllHold (f ∷ fs) (t ∷ ts) (value p.0 ∷ values p.1)) (IsLeast (IsAgainstSome (f ∷ fs) (t ∷ ts)))
 
-  lower : (one other : Refusal) (least : Bool) → nat_le one.number other.number ≡ least → (one.piece ≡ None) × IsAgainst f t one.number
+  lower : (one other : Refusal) (least : Bool) → nat_le one.number other.number ≡ least → (one.piece ≡ None)
+      × IsAgainst f t one.number
       → (other.piece ≡ None) × IsLeast (IsAgainstSome fs ts) other.number
       → Reads (Err (faults.Refused (if least then one else other)))
-  lower one other true e a l = (a.0, first_lower f fs t ts one.number other.number a.1 l.1 (grind (arith, nat_tests, e)))
-  lower one other false e a l = (l.0, rest_lower f fs t ts one.number other.number a.1 l.1 (grind (arith, nat_tests, e)))
+  lower one other true e a l = (
+    a.0,
+    first_lower f fs t ts one.number other.number a.1 l.1
+        (grind (arith, nat_tests, e)),
+  )
+  lower one other false e a l = (
+    l.0,
+    rest_lower f fs t ts one.number other.number a.1 l.1
+        (grind (arith, nat_tests, e)),
+  )
 
-  pub read_both : (a : Result A ReadFault) (b : Result B ReadFault) → ReadsTo (λ x. HoldsValue f t (value x)) (IsAgainst f t) a
+  pub read_both : (a : Result A ReadFault) (b : Result B ReadFault)
+      → ReadsTo (λ x. HoldsValue f t (value x)) (IsAgainst f t) a
       → ReadsTo (λ y. AllHold fs ts (values y)) (IsLeast (IsAgainstSome fs ts)) b → Reads (both_of a b)
   read_both (Ok x) (Ok y) h k = (h, k)
   read_both (Ok x) (Err faults.Memory) h k = tt
@@ -170,11 +189,13 @@ pub record AreFields {A : Type 0} (fs : List Field) (ts : List Text) (a : Result
   pub values : A → List Value
   pub reads : ReadsTo (λ x. AllHold fs ts (values x)) (IsLeast (IsAgainstSome fs ts)) a
 
-abbrev pub the_last : {A : Type 0} {a : Result A ReadFault} (f : Field) (t : Text) → IsField f t a → AreFields (f ∷ []) (t ∷ []) a
+abbrev pub the_last : {A : Type 0} {a : Result A ReadFault} (f : Field) (t : Text) → IsField f t a
+    → AreFields (f ∷ []) (t ∷ []) a
 the_last {a = a} f t h = record { values = λ x. h.value x ∷ []; reads = read_last h.value f t a h.reads }
 
 -- as `both` answers
-abbrev pub and_then : {A B : Type 0} {a : Result A ReadFault} {b : Result B ReadFault} {r : Result (A × B) ReadFault} {fs : List Field} {ts : List Text} (f : Field) (t : Text)
+abbrev pub and_then : {A B : Type 0} {a : Result A ReadFault} {b : Result B ReadFault} {r : Result (A × B) ReadFault}
+    {fs : List Field} {ts : List Text} (f : Field) (t : Text)
     → IsField f t a → r ≡ both_of a b → AreFields fs ts b → AreFields (f ∷ fs) (t ∷ ts) r
 and_then {a = a} {b = b} {fs = fs} {ts = ts} f t h e k = record {
   values = λ p. h.value p.0 ∷ k.values p.1;
@@ -210,7 +231,8 @@ none = record { ref_ptr = (0, 0); now = [] }
 abbrev pub text_at : List (Bor Text) → ℕ → Text
 text_at xs i = (get_or xs i none).now
 
-pub one_more : (xs : List (Bor Text)) (i : ℕ) → i < length xs → texts_of (drop i xs) ≡ text_at xs i ∷ texts_of (drop (i + 1) xs)
+pub one_more : (xs : List (Bor Text)) (i : ℕ) → i < length xs → texts_of (drop i xs) ≡ text_at xs i
+    ∷ texts_of (drop (i + 1) xs)
 one_more xs i h = rw (drop_more xs i none h) refl
 
 no_more : (xs : List (Bor Text)) (i : ℕ) → length xs ≤ i → texts_of (drop i xs) ≡ []
@@ -223,7 +245,8 @@ listed xs i (suc n) = text_at xs i ∷ listed xs (i + 1) n
 
 pub listed_from : (xs : List (Bor Text)) (i n : ℕ) → length xs ≡ i + n → texts_of (drop i xs) ≡ listed xs i n
 listed_from xs i zero e = no_more xs i (omega arith)
-listed_from xs i (suc n) e = one_more xs i (omega arith) ∙ ap (λ l. text_at xs i ∷ l) (listed_from xs (i + 1) n (omega arith))
+listed_from xs i (suc n) e = one_more xs i (omega arith)
+    ∙ ap (λ l. text_at xs i ∷ l) (listed_from xs (i + 1) n (omega arith))
 
 pub texts_are : (xs : List (Bor Text)) (n : ℕ) → n ≤ length xs → length xs < n + 1 → texts_of xs ≡ listed xs 0 n
 texts_are xs n a b = listed_from xs 0 n (omega arith)
@@ -235,8 +258,11 @@ pub refuses : {A : Type 0} {fs : List Field} {r : Result A ReadFault} {fault : R
     → ReadsTo {A = ⊤} (λ _. ⊤) (IsLeast (IsAgainstSome fs (texts_of xs))) (Err fault)
 refuses {fs = fs} {fault = fault} xs n low high e h =
     subst (λ ts. ReadsTo {A = ⊤} (λ _. ⊤) (IsLeast (IsAgainstSome fs ts)) (Err fault)) (sym (texts_are xs n low high))
-    (subst (ReadsTo (λ x. AllHold fs (listed xs 0 n) (h.values x)) (IsLeast (IsAgainstSome fs (listed xs 0 n)))) e h.reads)
+    (subst (ReadsTo (λ x. AllHold fs (listed xs 0 n) (h.values x)) (IsLeast (IsAgainstSome fs (listed xs 0 n)))) e
+    h.reads)
 
 -- the fields are those that the form asks
-pub holds : {A : Type 0} {fs : List Field} {ts : List Text} {r : Result A ReadFault} {v : A} → r ≡ Ok v → (h : AreFields fs ts r) → AllHold fs ts (h.values v)
-holds {fs = fs} {ts = ts} e h = subst (ReadsTo (λ x. AllHold fs ts (h.values x)) (IsLeast (IsAgainstSome fs ts))) e h.reads
+pub holds : {A : Type 0} {fs : List Field} {ts : List Text} {r : Result A ReadFault} {v : A} → r ≡ Ok v
+    → (h : AreFields fs ts r) → AllHold fs ts (h.values v)
+holds {fs = fs} {ts = ts} e h = subst (ReadsTo (λ x. AllHold fs ts (h.values x)) (IsLeast (IsAgainstSome fs ts))) e
+    h.reads

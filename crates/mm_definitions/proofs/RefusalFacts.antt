@@ -13,7 +13,8 @@ no_piece true = refl
 no_piece false = refl
 
 pub refused_for : (o : Option ℕ) (n : ℕ) → o ≡ Some n → refusal_of o None ≡ Some (refused n)
-refused_for o n is = ap (λ x. refusal_of x None) is ∙ ap (λ x. Some (record { number = n; piece = x })) (no_piece (n == 53))
+refused_for o n is = ap (λ x. refusal_of x None) is
+    ∙ ap (λ x. Some (record { number = n; piece = x })) (no_piece (n == 53))
 
 pub accepted_for : (o : Option ℕ) → o ≡ None → refusal_of o None ≡ None
 accepted_for o is = ap (λ x. refusal_of x None) is

@@ -143,7 +143,8 @@ abbrev pub begins_with_letter : List ℕ → Bool
 begins_with_letter [] = false
 begins_with_letter (c ∷ cs) = is_letter c
 
--- A name of a table, a mapping or an edition is 1 to 60 of a-z, 0-9 and _, begins with no digit, and not with gpkg, sqlite or mm_.
+-- A name of a table, a mapping or an edition is 1 to 60 of a-z, 0-9 and _, begins with no digit, and not with gpkg,
+-- sqlite or mm_.
 pub record IsName (text : List ℕ) : Type 0 where
   pub long : IsLong 1 MostNameBytes text
   pub first : IsTrue (begins_with_letter text)

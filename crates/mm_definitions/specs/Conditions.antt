@@ -2,7 +2,8 @@
 use Rattle.std.specs.Prelude.{ℕ, ◌+◌, length, ◌==◌, ℤ, pos, ◌+ℤ◌, ◌-ℤ◌, ◌*ℤ◌, Bool, not, cond, ◌&&◌, ◌||◌, List, []}
 use Rattle.std.specs.Prelude.{◌∷◌, Option, Some, None, min, int_lt, int_le, codes}
 use Rattle.std.specs.FinMap.{get, contains_key, entries, retain_keys}
-use Rattle.mm_definitions.specs.Keys.{Text, same_text, same_number, level, tile, item, Pairing, pairing, PieceKey, piece}
+use Rattle.mm_definitions.specs.Keys.{Text, same_text, same_number, level, tile, item, Pairing, pairing, PieceKey}
+use Rattle.mm_definitions.specs.Keys.{piece}
 use Rattle.mm_definitions.specs.Parts.{some_entry, at_value}
 use Rattle.mm_definitions.specs.Pieces.{piece_row, same_piece}
 use Rattle.mm_definitions.specs.Bounds.{MostPieces}
@@ -16,7 +17,8 @@ use Rattle.mm_definitions.specs.declared.commands.Matrix.{Matrix}
 use Rattle.mm_definitions.specs.declared.commands.Command.{Command}
 use Rattle.mm_definitions.specs.declared.commands.Command.TheVariants as commands
 use Rattle.mm_definitions.specs.declared.commands.Piece.TheVariants as pieces
-use Rattle.mm_definitions.specs.declared.commands.Piece.TheVariants.{Tile, TileDrop, Row, RowDrop, Media, MediaDrop, Map, MapDrop}
+use Rattle.mm_definitions.specs.declared.commands.Piece.TheVariants.{Tile, TileDrop, Row, RowDrop, Media, MediaDrop}
+use Rattle.mm_definitions.specs.declared.commands.Piece.TheVariants.{Map, MapDrop}
 use Rattle.mm_definitions.specs.declared.refusals.TheConstants.{SYSTEM_EXISTS, NO_SYSTEM, GEOGRAPHIC_SYSTEM}
 use Rattle.mm_definitions.specs.declared.refusals.TheConstants.{TABLE_NAME_TAKEN, IDENTIFIER_TAKEN, NO_TABLE}
 use Rattle.mm_definitions.specs.declared.refusals.TheConstants.{ANOTHER_KIND, EMPTY_EXTENT, MATRIX_EXISTS}
@@ -75,7 +77,14 @@ outside column row g = int_le g.matrix_width column || int_le g.matrix_height ro
 -- ---- matrices
 -- the numbers of a matrix, as its row holds them
 abbrev pub grid : Matrix → Grid
-grid m = record { matrix_width = pos m.mw; matrix_height = pos m.mh; tile_width = pos m.tw; tile_height = pos m.th; pixel_x_size = m.px; pixel_y_size = m.py }
+grid m = record {
+  matrix_width = pos m.mw;
+  matrix_height = pos m.mh;
+  tile_width = pos m.tw;
+  tile_height = pos m.th;
+  pixel_x_size = m.px;
+  pixel_y_size = m.py;
+}
 
 -- both across and down the extent is exactly the tiles of the matrix, times the pixels of a tile, times the pixel size
 abbrev pub is_product : Box → Grid → Bool
@@ -89,19 +98,23 @@ is_finer g h = int_lt h.pixel_x_size g.pixel_x_size && int_lt h.pixel_y_size g.p
 
 -- the first has pixels twice as large
 abbrev pub is_double : Grid → Grid → Bool
-is_double g h = same_number g.pixel_x_size (pos 2 *ℤ h.pixel_x_size) && same_number g.pixel_y_size (pos 2 *ℤ h.pixel_y_size)
+is_double g h = same_number g.pixel_x_size (pos 2 *ℤ h.pixel_x_size)
+    && same_number g.pixel_y_size (pos 2 *ℤ h.pixel_y_size)
 
--- whether two matrices of one pyramid suit each other, the first at the lower zoom; halved where the pyramid is of kind `two`
+-- whether two matrices of one pyramid suit each other, the first at the lower zoom; halved where the pyramid is of kind
+-- `two`
 abbrev pub suits_above : Bool → ℤ → Grid → ℤ → Grid → Bool
 suits_above halved low g high h = is_finer g h && (not (halved && same_number high (low +ℤ pos 1)) || is_double g h)
 
 -- the two matrices suit each other, whichever is at the lower zoom; at equal zooms any two do
 abbrev pub suits : Bool → ℤ → Grid → ℤ → Grid → Bool
-suits halved zoom g other h = (not (int_lt zoom other) || suits_above halved zoom g other h) && (not (int_lt other zoom) || suits_above halved other h zoom g)
+suits halved zoom g other h = (not (int_lt zoom other) || suits_above halved zoom g other h)
+    && (not (int_lt other zoom) || suits_above halved other h zoom g)
 
 -- some other zoom of the table has a matrix that this one doesn't suit
 abbrev pub clashes : Package → Text → ℤ → Grid → Bool
-clashes p table zoom g = some_entry (λ k h. same_text k.table table && not (suits (has_kind p.kinds table kinds.Two) zoom g k.zoom h)) p.matrices
+clashes p table zoom g = some_entry
+    (λ k h. same_text k.table table && not (suits (has_kind p.kinds table kinds.Two) zoom g k.zoom h)) p.matrices
 
 -- ---- pieces
 -- the numbers that may hold against a piece of an edition, each with whether it does
@@ -112,7 +125,8 @@ piece_reasons p (Tile table zoom column row bytes) =
     ∷ (OUTSIDE_MATRIX, at_value (outside (pos column) (pos row)) (get p.matrices (level table (pos zoom)))) ∷ []
 piece_reasons p (TileDrop table zoom column row) =
     no_table p table ∷ of_another_kind p table (is_pyramid p.kinds table)
-    ∷ (NO_TILE, is_pyramid p.kinds table && not (contains_key p.tiles (tile table (pos zoom) (pos column) (pos row)))) ∷ []
+    ∷ (NO_TILE, is_pyramid p.kinds table && not (contains_key p.tiles (tile table (pos zoom) (pos column) (pos row))))
+    ∷ []
 piece_reasons p (Row table id title note amount) =
     no_table p table ∷ of_another_kind p table (has_kind p.kinds table kinds.Attributes) ∷ []
 piece_reasons p (RowDrop table id) =
@@ -127,16 +141,28 @@ piece_reasons p (MediaDrop table id) =
     ∷ (STILL_MAPPED, is_mapped p table id) ∷ []
 piece_reasons p (Map mapping base_id related_id) =
     (NO_ROW, at_value (λ r. lacks_row p r.base base_id || lacks_row p r.related related_id) (get p.relations mapping))
-    ∷ (NO_MEDIA_ITEM, at_value (λ r. lacks_medium p r.base base_id || lacks_medium p r.related related_id) (get p.relations mapping))
+    ∷ (
+      NO_MEDIA_ITEM,
+      at_value (λ r. lacks_medium p r.base base_id || lacks_medium p r.related related_id)
+          (get p.relations mapping),
+    )
     ∷ (NO_RELATION, not (contains_key p.relations mapping))
     ∷ (MAPPING_ROW_EXISTS, contains_key p.pairings (pairing mapping base_id related_id)) ∷ []
 piece_reasons p (MapDrop mapping base_id related_id) =
     (NO_RELATION, not (contains_key p.relations mapping))
-    ∷ (NO_MAPPING_ROW, contains_key p.relations mapping && not (contains_key p.pairings (pairing mapping base_id related_id))) ∷ []
+    ∷ (
+      NO_MAPPING_ROW,
+      contains_key p.relations mapping
+          && not (contains_key p.pairings (pairing mapping base_id related_id)),
+    ) ∷ []
 piece_reasons p (pieces.Matrix table zoom matrix) =
     no_table p table ∷ of_another_kind p table (is_pyramid p.kinds table)
     ∷ (MATRIX_EXISTS, is_pyramid p.kinds table && contains_key p.matrices (level table (pos zoom)))
-    ∷ (NOT_THE_PRODUCT, is_pyramid p.kinds table && at_value (λ s. not (is_product s.box (grid matrix))) (get p.sets table))
+    ∷ (
+      NOT_THE_PRODUCT,
+      is_pyramid p.kinds table && at_value (λ s. not (is_product s.box (grid matrix)))
+          (get p.sets table),
+    )
     ∷ (PIXEL_SIZES_OUT_OF_ORDER, is_pyramid p.kinds table && clashes p table (pos zoom) (grid matrix)) ∷ []
 
 -- ---- relations
@@ -211,7 +237,8 @@ own_reasons p (commands.RelationDrop mapping) =
 own_reasons p (commands.Edition name) =
     (EDITION_EXISTS, contains_key p.editions name) ∷ []
 own_reasons p (commands.Discard name) =
-    (NO_EDITION, not (contains_key p.editions name)) ∷ (PUBLISHED_ALREADY, contains_key p.editions name && not (is_open p name)) ∷ []
+    (NO_EDITION, not (contains_key p.editions name))
+    ∷ (PUBLISHED_ALREADY, contains_key p.editions name && not (is_open p name)) ∷ []
 own_reasons p (commands.Stage edition number q) =
     (NO_EDITION, not (contains_key p.editions edition))
     ∷ (
@@ -219,12 +246,18 @@ own_reasons p (commands.Stage edition number q) =
       is_open p edition && (int_lt (pos (piece_count p edition + 1)) number
           || (int_le number (pos (piece_count p edition)) && not (has_equal_piece p edition number q))),
     )
-    ∷ (TOO_MANY_PIECES, is_open p edition && same_number number (pos (piece_count p edition + 1)) && (piece_count p edition == MostPieces))
+    ∷ (
+      TOO_MANY_PIECES,
+      is_open p edition && same_number number (pos (piece_count p edition + 1))
+          && (piece_count p edition == MostPieces),
+    )
     ∷ (PUBLISHED_ALREADY, contains_key p.editions edition && not (is_open p edition)) ∷ []
 own_reasons p (commands.Publish edition) =
-    (NO_EDITION, not (contains_key p.editions edition)) ∷ (PUBLISHED_ALREADY, contains_key p.editions edition && not (is_open p edition)) ∷ []
+    (NO_EDITION, not (contains_key p.editions edition))
+    ∷ (PUBLISHED_ALREADY, contains_key p.editions edition && not (is_open p edition)) ∷ []
 own_reasons p (commands.Rehearse edition) =
-    (NO_EDITION, not (contains_key p.editions edition)) ∷ (PUBLISHED_ALREADY, contains_key p.editions edition && not (is_open p edition)) ∷ []
+    (NO_EDITION, not (contains_key p.editions edition))
+    ∷ (PUBLISHED_ALREADY, contains_key p.editions edition && not (is_open p edition)) ∷ []
 own_reasons p (commands.Tile table zoom column row bytes) = piece_reasons p (Tile table zoom column row bytes)
 own_reasons p (commands.TileDrop table zoom column row) = piece_reasons p (TileDrop table zoom column row)
 own_reasons p (commands.Row table id title note amount) = piece_reasons p (Row table id title note amount)

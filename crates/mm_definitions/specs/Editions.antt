@@ -23,7 +23,8 @@ piece_trial p number stamp None = Ok p
 piece_trial p number stamp (Some q) = decided p number q stamp (least (piece_reasons p q))
 
 -- the rest of the pieces, on the package that one gave; after a refusal they are not tried
-abbrev pub after_trial : Result Package PieceRefusal → (Package → Result Package PieceRefusal) → Result Package PieceRefusal
+abbrev pub after_trial : Result Package PieceRefusal → (Package → Result Package PieceRefusal)
+    → Result Package PieceRefusal
 after_trial (Ok p) rest = rest p
 after_trial (Err refusal) rest = Err refusal
 
@@ -39,4 +40,8 @@ edition_trial p edition stamp = trial (pieces_of p edition) p stamp
 
 -- the edition is published and holds no pieces
 abbrev pub closed : Text → Package → Package
-closed edition p = record p { editions = insert p.editions edition published_state; pieces = retain_keys p.pieces (λ k. is_other edition k.edition) }
+closed edition p = record p {
+  editions = insert p.editions edition published_state;
+  pieces = retain_keys p.pieces
+      (λ k. is_other edition k.edition);
+}

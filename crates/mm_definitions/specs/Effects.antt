@@ -2,7 +2,8 @@
 use Rattle.std.specs.Prelude.{ℤ, pos, Bool, not, [], Option, Some, None, codes}
 use Rattle.std.specs.FinMap.{get, insert, remove, retain_keys}
 use Rattle.mm_definitions.specs.Keys.{Text, same_text, level, tile, item, pairing, piece}
-use Rattle.mm_definitions.specs.Package.{Package, Contents, Box, kind_text, mapping_extension, zoom_extension, open_state}
+use Rattle.mm_definitions.specs.Package.{Package, Contents, Box, kind_text, mapping_extension, zoom_extension}
+use Rattle.mm_definitions.specs.Package.{open_state}
 use Rattle.mm_definitions.specs.Pieces.{piece_row}
 use Rattle.mm_definitions.specs.Conditions.{grid, relation_text}
 use Rattle.mm_definitions.specs.declared.commands.Step.{Step}
@@ -15,7 +16,8 @@ use Rattle.mm_definitions.specs.declared.commands.Command.{Command}
 use Rattle.mm_definitions.specs.declared.commands.Command.TheVariants as commands
 use Rattle.mm_definitions.specs.declared.commands.Piece.{Piece}
 use Rattle.mm_definitions.specs.declared.commands.Piece.TheVariants as pieces
-use Rattle.mm_definitions.specs.declared.commands.Piece.TheVariants.{Tile, TileDrop, Row, RowDrop, Media, MediaDrop, Map, MapDrop}
+use Rattle.mm_definitions.specs.declared.commands.Piece.TheVariants.{Tile, TileDrop, Row, RowDrop, Media, MediaDrop}
+use Rattle.mm_definitions.specs.declared.commands.Piece.TheVariants.{Map, MapDrop}
 
 -- the same, changed at this time
 abbrev pub changed_at : Text → Contents → Contents
@@ -38,11 +40,13 @@ piece_effect p (Tile table zoom column row bytes) stamp =
 piece_effect p (TileDrop table zoom column row) stamp =
     touch (record p { tiles = remove p.tiles (tile table (pos zoom) (pos column) (pos row)) }) table stamp
 piece_effect p (Row table id title note amount) stamp =
-    touch (record p { rows = insert p.rows (item table id) (record { title = title; note = note; amount = amount }) }) table stamp
+    touch (record p { rows = insert p.rows (item table id) (record { title = title; note = note; amount = amount }) })
+    table stamp
 piece_effect p (RowDrop table id) stamp =
     touch (record p { rows = remove p.rows (item table id) }) table stamp
 piece_effect p (Media table id content_type bytes) stamp =
-    touch (record p { media = insert p.media (item table id) (record { bytes = bytes; content_type = content_type }) }) table stamp
+    touch (record p { media = insert p.media (item table id) (record { bytes = bytes; content_type = content_type }) })
+    table stamp
 piece_effect p (MediaDrop table id) stamp =
     touch (record p { media = remove p.media (item table id) }) table stamp
 piece_effect p (Map mapping base_id related_id) stamp =
@@ -117,7 +121,8 @@ effect p (commands.Srs id name organization organization_id definition descripti
       });
     }
 effect p (commands.Pyramid table identifier srs min_x min_y max_x max_y step) stamp =
-    with_zoom_row (with_pyramid p table identifier srs (record { min_x = min_x; min_y = min_y; max_x = max_x; max_y = max_y }) step stamp) table step
+    with_zoom_row (with_pyramid p table identifier srs
+    (record { min_x = min_x; min_y = min_y; max_x = max_x; max_y = max_y }) step stamp) table step
 effect p (commands.Matrix table zoom matrix) stamp = piece_effect p (pieces.Matrix table zoom matrix) stamp
 effect p (commands.Table table kind identifier) stamp =
     record p {
@@ -155,7 +160,8 @@ effect p (commands.RelationDrop mapping) stamp =
 effect p (commands.Edition name) stamp = record p { editions = insert p.editions name open_state }
 effect p (commands.Discard name) stamp =
     record p { editions = remove p.editions name; pieces = retain_keys p.pieces (λ k. is_other name k.edition) }
-effect p (commands.Stage edition number q) stamp = record p { pieces = insert p.pieces (piece edition number) (piece_row q) }
+effect p (commands.Stage edition number q) stamp =
+    record p { pieces = insert p.pieces (piece edition number) (piece_row q) }
 effect p (commands.Publish edition) stamp = p
 effect p (commands.Rehearse edition) stamp = p
 effect p (commands.Tile table zoom column row bytes) stamp = piece_effect p (Tile table zoom column row bytes) stamp

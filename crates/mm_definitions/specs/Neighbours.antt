@@ -31,13 +31,15 @@ neighbours below zoom g above halved = suits_below halved below zoom g && suits_
 abbrev pub IsNearestBelow : MatricesPart → Text → ℤ → Option Zoomed → Type 0
 IsNearestBelow matrices table zoom None = (other : ℤ) → Stands matrices (level table other) → zoom ≤ℤ other
 IsNearestBelow matrices table zoom (Some b) =
-    Has matrices (level table b.zoom) b.grid × (b.zoom <ℤ zoom) × ((other : ℤ) → Stands matrices (level table other) → other <ℤ zoom → other ≤ℤ b.zoom)
+    Has matrices (level table b.zoom) b.grid × (b.zoom <ℤ zoom)
+    × ((other : ℤ) → Stands matrices (level table other) → other <ℤ zoom → other ≤ℤ b.zoom)
 
 -- the nearest higher
 abbrev pub IsNearestAbove : MatricesPart → Text → ℤ → Option Zoomed → Type 0
 IsNearestAbove matrices table zoom None = (other : ℤ) → Stands matrices (level table other) → other ≤ℤ zoom
 IsNearestAbove matrices table zoom (Some a) =
-    Has matrices (level table a.zoom) a.grid × (zoom <ℤ a.zoom) × ((other : ℤ) → Stands matrices (level table other) → zoom <ℤ other → a.zoom ≤ℤ other)
+    Has matrices (level table a.zoom) a.grid × (zoom <ℤ a.zoom)
+    × ((other : ℤ) → Stands matrices (level table other) → zoom <ℤ other → a.zoom ≤ℤ other)
 
 -- a zoom and its matrix as a call names them
 abbrev pub zoomed : Option (ℕ × Matrix) → Option Zoomed

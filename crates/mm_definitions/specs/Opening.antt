@@ -7,7 +7,8 @@ use Rattle.mm_definitions.specs.Rules.{geographic, undefined_cartesian, undefine
 -- the three given reference systems and the extension row of related tables, and nothing else
 abbrev pub opening : Package
 opening = record {
-  systems = insert (insert (insert empty (pos 4326) geographic) (negsuc 0) undefined_cartesian) (pos 0) undefined_geographic;
+  systems = insert (insert (insert empty (pos 4326) geographic) (negsuc 0) undefined_cartesian) (pos 0)
+      undefined_geographic;
   contents = empty;
   kinds = empty;
   sets = empty;

@@ -3,7 +3,8 @@
 use Rattle.std.specs.Prelude.{◌≡◌, ℕ, ℤ, Bool, ◌||◌, List, Option, Some, None, codes, ⊤, ◌⊎◌}
 use Rattle.std.specs.Ordering.{int_cmp}
 use Rattle.std.specs.FinMap.{FinMap, get}
-use Rattle.mm_definitions.specs.Keys.{Text, text_cmp, same_text, level_cmp, tile_cmp, item_cmp, pairing_cmp, piece_cmp, Extension, extension_cmp}
+use Rattle.mm_definitions.specs.Keys.{Text, text_cmp, same_text, level_cmp, tile_cmp, item_cmp, pairing_cmp, piece_cmp}
+use Rattle.mm_definitions.specs.Keys.{Extension, extension_cmp}
 use Rattle.mm_definitions.specs.Parts.{at_value}
 use Rattle.mm_definitions.specs.declared.commands.Kind.{Kind}
 use Rattle.mm_definitions.specs.declared.commands.Kind.TheVariants.{Two, Other, Attributes, Media}
@@ -176,8 +177,8 @@ IsPyramid kinds table = HasKind kinds table Two ⊎ HasKind kinds table Other
 abbrev pub is_pyramid : Kinds → Text → Bool
 is_pyramid kinds table = has_kind kinds table Two || has_kind kinds table Other
 
--- ---- the extension rows of a package: of related tables, of each mapping, and of each pyramid with other zoom intervals (Zoom Other Intervals)
--- the extension row of `gpkgext_relations`, which each package has
+-- ---- the extension rows of a package: of related tables, of each mapping, and of each pyramid with other zoom
+-- intervals (Zoom Other Intervals) the extension row of `gpkgext_relations`, which each package has
 abbrev pub general_extension : Extension
 general_extension = record {
   table = Some (codes "gpkgext_relations");

@@ -1,7 +1,8 @@
 -- The pieces in groups, by what they change.
 use Rattle.std.specs.Prelude.{Bool, true, false}
 use Rattle.mm_definitions.specs.declared.commands.Piece.{Piece}
-use Rattle.mm_definitions.specs.declared.commands.Piece.TheVariants.{Tile, TileDrop, Row, RowDrop, Media, MediaDrop, Map, MapDrop, Matrix}
+use Rattle.mm_definitions.specs.declared.commands.Piece.TheVariants.{Tile, TileDrop, Row, RowDrop, Media, MediaDrop}
+use Rattle.mm_definitions.specs.declared.commands.Piece.TheVariants.{Map, MapDrop, Matrix}
 
 -- it changes a tile
 abbrev pub changes_tile : Piece → Bool

@@ -5,7 +5,8 @@ use Rattle.mm_definitions.specs.Package.{PieceRow}
 use Rattle.mm_definitions.specs.declared.commands.Command.{Command}
 use Rattle.mm_definitions.specs.declared.commands.Command.TheVariants as commands
 use Rattle.mm_definitions.specs.declared.commands.Piece.{Piece}
-use Rattle.mm_definitions.specs.declared.commands.Piece.TheVariants.{Tile, TileDrop, Row, RowDrop, Media, MediaDrop, Map, MapDrop, Matrix}
+use Rattle.mm_definitions.specs.declared.commands.Piece.TheVariants.{Tile, TileDrop, Row, RowDrop, Media, MediaDrop}
+use Rattle.mm_definitions.specs.declared.commands.Piece.TheVariants.{Map, MapDrop, Matrix}
 
 -- a row of this kind; the columns that matrices alone use are 0
 abbrev pub piece_of : Text → Text → ℤ → ℤ → ℤ → Text → Text → List ℕ → PieceRow
@@ -52,8 +53,10 @@ piece_row (Matrix table zoom m) = record {
 -- two rows of pieces that are equal in each column
 abbrev pub same_piece : PieceRow → PieceRow → Bool
 same_piece a b =
-    same_text a.kind b.kind && same_text a.name b.name && same_number a.k1 b.k1 && same_number a.k2 b.k2 && same_number a.k3 b.k3 && same_number a.k4 b.k4
-    && same_number a.k5 b.k5 && same_number a.k6 b.k6 && same_number a.k7 b.k7 && same_text a.t1 b.t1 && same_text a.t2 b.t2 && same_text a.bytes b.bytes
+    same_text a.kind b.kind && same_text a.name b.name && same_number a.k1 b.k1 && same_number a.k2 b.k2
+    && same_number a.k3 b.k3 && same_number a.k4 b.k4
+    && same_number a.k5 b.k5 && same_number a.k6 b.k6 && same_number a.k7 b.k7 && same_text a.t1 b.t1
+    && same_text a.t2 b.t2 && same_text a.bytes b.bytes
 
 -- the piece that some columns of a row give, if its kind is known
 abbrev pub piece_by_kind : PieceRow → Option Piece

@@ -29,7 +29,8 @@ reads_bytes most text bytes = (decode_of text ≡ Ok bytes) × IsLong 1 most byt
 -- 10 against a text that isn't bytes in hexadecimal digits, 11 against no bytes and against more than the most
 abbrev pub refuses_bytes : ℕ → List ℕ → ℕ → Type 0
 refuses_bytes most text number =
-    ((number ≡ NO_SUCH_RECORD) × IsErr (decode_of text)) ⊎ ((number ≡ OUT_OF_LIMITS) × (bytes : List ℕ) × (decode_of text ≡ Ok bytes) × ¬ (IsLong 1 most bytes))
+    ((number ≡ NO_SUCH_RECORD) × IsErr (decode_of text))
+    ⊎ ((number ≡ OUT_OF_LIMITS) × (bytes : List ℕ) × (decode_of text ≡ Ok bytes) × ¬ (IsLong 1 most bytes))
 
 -- a number against a record, and no piece
 abbrev pub refused : ℕ → ReadFault
@@ -43,7 +44,8 @@ outcome_refused number = outcomes.Refused (record { number = number; piece = Non
 abbrev pub least_fault : ReadFault → ReadFault → ReadFault
 least_fault faults.Memory other = faults.Memory
 least_fault (faults.Refused one) faults.Memory = faults.Memory
-least_fault (faults.Refused one) (faults.Refused other) = faults.Refused (if nat_le one.number other.number then one else other)
+least_fault (faults.Refused one) (faults.Refused other) = faults.Refused (if nat_le one.number other.number then one
+    else other)
 
 -- both values, or the fault that is against one of them, the least where both have one
 abbrev pub both_of : {A B : Type 0} → Result A ReadFault → Result B ReadFault → Result (A × B) ReadFault

@@ -13,7 +13,8 @@ use Rattle.mm_definitions.specs.Conditions.{relation_text}
 use Rattle.mm_definitions.specs.declared.commands.Matrix.{Matrix}
 use Rattle.mm_definitions.specs.declared.commands.Piece.{Piece}
 use Rattle.mm_definitions.specs.declared.commands.Piece.TheVariants as pieces
-use Rattle.mm_definitions.specs.declared.commands.Piece.TheVariants.{Tile, TileDrop, Row, RowDrop, Media, MediaDrop, Map, MapDrop}
+use Rattle.mm_definitions.specs.declared.commands.Piece.TheVariants.{Tile, TileDrop, Row, RowDrop, Media, MediaDrop}
+use Rattle.mm_definitions.specs.declared.commands.Piece.TheVariants.{Map, MapDrop}
 use Rattle.mm_definitions.specs.declared.commands.Command.{Command}
 use Rattle.mm_definitions.specs.declared.commands.Command.TheVariants as commands
 
@@ -129,7 +130,8 @@ srs_form = id_field ∷ system_name ∷ system_name ∷ id_field ∷ definition_
 -- a pyramid: name, identifier, system, extent as min_x, min_y, max_x and max_y, and kind
 abbrev pub pyramid_form : Profile → Form
 pyramid_form profile =
-    AName ∷ AnIdentifier ∷ named_system ∷ coordinate profile ∷ coordinate profile ∷ coordinate profile ∷ coordinate profile
+    AName ∷ AnIdentifier ∷ named_system ∷ coordinate profile ∷ coordinate profile ∷ coordinate profile
+    ∷ coordinate profile
     ∷ step_words ∷ []
 
 -- a table that is no pyramid: name, kind and identifier
@@ -193,12 +195,15 @@ piece_word (pieces.Matrix table zoom matrix) = codes "matrix"
 
 -- the six numbers of a matrix, in the order of its record
 abbrev pub matrix_values : Matrix → List Value
-matrix_values m = Whole (pos m.mw) ∷ Whole (pos m.mh) ∷ Whole (pos m.tw) ∷ Whole (pos m.th) ∷ Whole m.px ∷ Whole m.py ∷ []
+matrix_values m = Whole (pos m.mw) ∷ Whole (pos m.mh) ∷ Whole (pos m.tw) ∷ Whole (pos m.th) ∷ Whole m.px ∷ Whole m.py
+    ∷ []
 
 -- the values of a piece's fields after its word
 abbrev pub piece_values : Piece → List Value
-piece_values (Tile table zoom column row bytes) = Plain table ∷ Whole (pos zoom) ∷ Whole (pos column) ∷ Whole (pos row) ∷ Plain bytes ∷ []
-piece_values (TileDrop table zoom column row) = Plain table ∷ Whole (pos zoom) ∷ Whole (pos column) ∷ Whole (pos row) ∷ []
+piece_values (Tile table zoom column row bytes) = Plain table ∷ Whole (pos zoom) ∷ Whole (pos column) ∷ Whole (pos row)
+    ∷ Plain bytes ∷ []
+piece_values (TileDrop table zoom column row) = Plain table ∷ Whole (pos zoom) ∷ Whole (pos column) ∷ Whole (pos row)
+    ∷ []
 piece_values (Row table id title note amount) = Plain table ∷ Whole id ∷ Plain title ∷ Plain note ∷ Whole amount ∷ []
 piece_values (RowDrop table id) = Plain table ∷ Whole id ∷ []
 piece_values (Media table id content_type bytes) = Plain table ∷ Whole id ∷ Plain content_type ∷ Plain bytes ∷ []
@@ -235,9 +240,11 @@ abbrev pub command_values : Command → List Value
 command_values (commands.Srs id name organization organization_id definition description) =
     Whole id ∷ Plain name ∷ Plain organization ∷ Whole organization_id ∷ Plain definition ∷ Plain description ∷ []
 command_values (commands.Pyramid table identifier srs min_x min_y max_x max_y step) =
-    Plain table ∷ Plain identifier ∷ Whole srs ∷ Whole min_x ∷ Whole min_y ∷ Whole max_x ∷ Whole max_y ∷ Plain (kind_text (step_kind step)) ∷ []
+    Plain table ∷ Plain identifier ∷ Whole srs ∷ Whole min_x ∷ Whole min_y ∷ Whole max_x ∷ Whole max_y
+    ∷ Plain (kind_text (step_kind step)) ∷ []
 command_values (commands.Matrix table zoom matrix) = piece_values (pieces.Matrix table zoom matrix)
-command_values (commands.Table table kind identifier) = Plain table ∷ Plain (kind_text (plain_kind kind)) ∷ Plain identifier ∷ []
+command_values (commands.Table table kind identifier) = Plain table ∷ Plain (kind_text (plain_kind kind))
+    ∷ Plain identifier ∷ []
 command_values (commands.Drop table) = Plain table ∷ []
 command_values (commands.Tile table zoom column row bytes) = piece_values (Tile table zoom column row bytes)
 command_values (commands.TileDrop table zoom column row) = piece_values (TileDrop table zoom column row)
@@ -245,13 +252,15 @@ command_values (commands.Row table id title note amount) = piece_values (Row tab
 command_values (commands.RowDrop table id) = piece_values (RowDrop table id)
 command_values (commands.Media table id content_type bytes) = piece_values (Media table id content_type bytes)
 command_values (commands.MediaDrop table id) = piece_values (MediaDrop table id)
-command_values (commands.Relation mapping base related name) = Plain mapping ∷ Plain base ∷ Plain related ∷ Plain (relation_text name) ∷ []
+command_values (commands.Relation mapping base related name) = Plain mapping ∷ Plain base ∷ Plain related
+    ∷ Plain (relation_text name) ∷ []
 command_values (commands.RelationDrop mapping) = Plain mapping ∷ []
 command_values (commands.Map mapping base_id related_id) = piece_values (Map mapping base_id related_id)
 command_values (commands.MapDrop mapping base_id related_id) = piece_values (MapDrop mapping base_id related_id)
 command_values (commands.Edition name) = Plain name ∷ []
 command_values (commands.Discard name) = Plain name ∷ []
-command_values (commands.Stage edition number piece) = Plain edition ∷ Whole number ∷ Plain (piece_word piece) ∷ piece_values piece
+command_values (commands.Stage edition number piece) = Plain edition ∷ Whole number ∷ Plain (piece_word piece)
+    ∷ piece_values piece
 command_values (commands.Publish edition) = Plain edition ∷ []
 command_values (commands.Rehearse edition) = Plain edition ∷ []
 
@@ -269,7 +278,8 @@ IsUnmet (Some form) texts n = IsAgainstSome form texts n
 -- the fields of a record, its word first, spell this piece
 abbrev pub SpellsPiece : Profile → List Text → Piece → Type 0
 SpellsPiece profile [] q = ⊥
-SpellsPiece profile (word ∷ texts) q = (word ≡ piece_word q) × IsMet (piece_form profile (word ∷ texts)) texts (piece_values q)
+SpellsPiece profile (word ∷ texts) q = (word ≡ piece_word q)
+    × IsMet (piece_form profile (word ∷ texts)) texts (piece_values q)
 
 -- the number holds against the fields of a record that is to spell a piece
 abbrev pub HoldsAgainstPiece : Profile → List Text → ℕ → Type 0
@@ -279,7 +289,8 @@ HoldsAgainstPiece profile (word ∷ texts) n = IsUnmet (piece_form profile (word
 -- the fields of a record, its word first, spell this command
 abbrev pub Spells : Profile → List Text → Command → Type 0
 Spells profile [] c = ⊥
-Spells profile (word ∷ texts) c = (word ≡ command_word c) × IsMet (record_form profile (word ∷ texts)) texts (command_values c)
+Spells profile (word ∷ texts) c = (word ≡ command_word c)
+    × IsMet (record_form profile (word ∷ texts)) texts (command_values c)
 
 -- the number holds against the fields of a record that is to spell a command
 abbrev pub HoldsAgainst : Profile → List Text → ℕ → Type 0

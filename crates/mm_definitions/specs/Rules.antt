@@ -1,5 +1,6 @@
 -- The rules that a whole package meets, Q1 to Q16. Each reads only the parts that it names.
-use Rattle.std.specs.Prelude.{◌≡◌, ◌≢◌, ℕ, ◌≤◌, ℤ, pos, negsuc, ◌+ℤ◌, ◌-ℤ◌, ◌*ℤ◌, ◌≤ℤ◌, ◌<ℤ◌, ◌⊎◌, List, [], Option, Some, None, IfSome, codes, ⊤}
+use Rattle.std.specs.Prelude.{◌≡◌, ◌≢◌, ℕ, ◌≤◌, ℤ, pos, negsuc, ◌+ℤ◌, ◌-ℤ◌, ◌*ℤ◌, ◌≤ℤ◌, ◌<ℤ◌, ◌⊎◌, List, [], Option}
+use Rattle.std.specs.Prelude.{Some, None, IfSome, codes, ⊤}
 use Rattle.std.specs.FinMap.{get}
 use Rattle.mm_definitions.specs.Bounds.{Profile, IsFrom, IsCoordinate, IsPixelSize, IsZoom, IsMatrixSide, IsTileSide}
 use Rattle.mm_definitions.specs.Bounds.{IsTilePlace, IsId, IsSystemNumber, IsAmount, IsTileBytes, IsMediaBytes}
@@ -68,14 +69,16 @@ abbrev pub MayName : SystemsPart → Kinds → Text → ℤ → Type 0
 MayName systems kinds table system = Stands systems system × (IsPyramid kinds table → IsPlane system)
 
 -- each contents row that has a system, and each matrix set, names one that its table may name
-pub record NamedSystems (systems : SystemsPart) (contents : ContentsPart) (kinds : Kinds) (sets : SetsPart) : Type 0 where
-  pub of_contents : Each contents (λ table c. IfSome c.system (MayName systems kinds table))
-  pub of_sets : Each sets (λ table s. MayName systems kinds table s.system)
+pub record NamedSystems (systems : SystemsPart) (contents : ContentsPart) (kinds : Kinds) (sets : SetsPart) : Type 0
+  where
+    pub of_contents : Each contents (λ table c. IfSome c.system (MayName systems kinds table))
+    pub of_sets : Each sets (λ table s. MayName systems kinds table s.system)
 
 -- ---- 3: identifiers differ
 -- two tables of one identifier are the same table
 abbrev pub DistinctIdentifiers : ContentsPart → Type 0
-DistinctIdentifiers contents = Each contents (λ table c. Each contents (λ other d. c.identifier ≡ d.identifier → table ≡ other))
+DistinctIdentifiers contents = Each contents
+    (λ table c. Each contents (λ other d. c.identifier ≡ d.identifier → table ≡ other))
 
 -- ---- 4: tables, mappings and editions have names, and no mapping the name of a table
 -- each name keeps the limits of names, and no mapping has the name of a table
@@ -85,7 +88,8 @@ pub record ProperNames (contents : ContentsPart) (relations : RelationsPart) (ed
   pub of_editions : Each editions (λ edition _. IsName edition)
 
 -- ---- 5: the registry, the contents and the matrix sets speak of the same tables
--- the contents row of a table that is no pyramid: data_type `attributes`, no extent, no system, and no matrix set beside it
+-- the contents row of a table that is no pyramid: data_type `attributes`, no extent, no system, and no matrix set
+-- beside it
 abbrev pub IsUnplaced : Contents → Option MatrixSet → Type 0
 IsUnplaced c set = (c.data_type ≡ codes "attributes") × (c.min_x ≡ None) × (c.min_y ≡ None) × (c.max_x ≡ None)
     × (c.max_y ≡ None) × (c.system ≡ None) × (set ≡ None)
@@ -159,16 +163,18 @@ pub record IsHalved (g h : Grid) : Type 0 where
   pub across : g.pixel_x_size ≡ pos 2 *ℤ h.pixel_x_size
   pub down : g.pixel_y_size ≡ pos 2 *ℤ h.pixel_y_size
 
--- where a pyramid of kind `two` has matrices at a zoom and the next, the next has half the pixel sizes, both across and down
+-- where a pyramid of kind `two` has matrices at a zoom and the next, the next has half the pixel sizes, both across and
+-- down
 abbrev pub NextIsHalved : Kinds → MatricesPart → Type 0
 NextIsHalved kinds matrices = (table : Text) (zoom : ℤ) (g h : Grid) → HasKind kinds table Two → Has matrices
     (level table zoom) g → Has matrices (level table (zoom +ℤ pos 1)) h → IsHalved g h
 
--- ---- 10: each tile lies in the matrix at its zoom; column 0, row 0 is the upper left, and tiles may be missing (Tile Pyramid User Data Tables)
--- there is a matrix, and it has this column and this row
+-- ---- 10: each tile lies in the matrix at its zoom; column 0, row 0 is the upper left, and tiles may be missing (Tile
+-- Pyramid User Data Tables) there is a matrix, and it has this column and this row
 abbrev pub IsInside : Option Grid → ℤ → ℤ → Type 0
 IsInside None column row = ⊥
-IsInside (Some g) column row = (pos 0 ≤ℤ column) × (column <ℤ g.matrix_width) × (pos 0 ≤ℤ row) × (row <ℤ g.matrix_height)
+IsInside (Some g) column row = (pos 0 ≤ℤ column) × (column <ℤ g.matrix_width) × (pos 0 ≤ℤ row)
+    × (row <ℤ g.matrix_height)
 
 -- each tile has a matrix at its zoom and lies inside it
 abbrev pub TilesInside : MatricesPart → TilesPart → Type 0
@@ -229,10 +235,12 @@ IsNumbered pieces edition n = (number : ℤ) → (Stands pieces (piece edition n
 abbrev pub IsSpelled : Profile → PieceRow → Type 0
 IsSpelled profile r = (q : Piece) × (r ≡ piece_row q) × IsPieceWithin profile q × Takes profile q
 
--- each edition is open or published; an open one has pieces 1 to n, n at most 4096; only open ones have pieces, each spelled
+-- each edition is open or published; an open one has pieces 1 to n, n at most 4096; only open ones have pieces, each
+-- spelled
 pub record Editions (profile : Profile) (editions : EditionsPart) (pieces : PiecesPart) : Type 0 where
   pub states : Each editions (λ _ state. (state ≡ open_state) ⊎ (state ≡ published_state))
-  pub numbered : (edition : Text) → Has editions edition open_state → (n : ℕ) × (n ≤ MostPieces) × IsNumbered pieces edition n
+  pub numbered : (edition : Text) → Has editions edition open_state → (n : ℕ) × (n ≤ MostPieces)
+      × IsNumbered pieces edition n
   pub of_open : Each pieces (λ k _. Has editions k.edition open_state)
   pub spelled : Each pieces (λ _ r. IsSpelled profile r)
 

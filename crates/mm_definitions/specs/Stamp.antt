@@ -1,5 +1,6 @@
 -- The text of a moment, counted in milliseconds from 1970-01-01T00:00:00Z.
-use Rattle.std.specs.Prelude.{slice_index, ◌≡◌, ℕ, zero, suc, ◌+◌, ◌-◌, ◌*◌, ◌/◌, ◌%◌, nat_lt, pos, List, [], ◌∷◌, ◌++◌, codes, if◌then◌else◌, unsigned_abs}
+use Rattle.std.specs.Prelude.{slice_index, ◌≡◌, ℕ, zero, suc, ◌+◌, ◌-◌, ◌*◌, ◌/◌, ◌%◌, nat_lt, pos, List, [], ◌∷◌, ◌++◌}
+use Rattle.std.specs.Prelude.{codes, if◌then◌else◌, unsigned_abs}
 use Rattle.mm_definitions.specs.Bounds.{IsMoment}
 use Rattle.jiff.specs.Types.{Date}
 use Rattle.jiff.specs.Words.{epoch_day, days_in_year, days_in_month}

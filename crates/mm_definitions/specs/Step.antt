@@ -1,5 +1,6 @@
 -- One command: whether it is refused, and the package after it.
-use Rattle.std.specs.Prelude.{ℕ, Bool, false, ◌&&◌, [], ◌∷◌, ◌++◌, Option, Some, None, Result, Ok, Err, is_err, if◌then◌else◌, ◌==◌}
+use Rattle.std.specs.Prelude.{ℕ, Bool, false, ◌&&◌, [], ◌∷◌, ◌++◌, Option, Some, None, Result, Ok, Err, is_err}
+use Rattle.std.specs.Prelude.{if◌then◌else◌, ◌==◌}
 use Rattle.mm_definitions.specs.Keys.{Text}
 use Rattle.mm_definitions.specs.Package.{Package}
 use Rattle.mm_definitions.specs.Conditions.{Reasons, least, own_reasons, is_open}
@@ -35,7 +36,8 @@ refused_piece (Err r) = Some r
 -- the least reason; 53 carries the piece and its refusal
 abbrev pub refusal_of : Option ℕ → Option PieceRefusal → Option Refusal
 refusal_of None piece = None
-refusal_of (Some number) piece = Some (record { number = number; piece = if number == PIECE_REFUSED then piece else None })
+refusal_of (Some number) piece =
+    Some (record { number = number; piece = if number == PIECE_REFUSED then piece else None })
 
 -- what a command is refused with where the pieces are tried at this stamp, or None where it is ok
 abbrev pub refusal_at : Package → Command → Text → Option Refusal

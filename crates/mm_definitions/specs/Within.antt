@@ -6,7 +6,8 @@ use Rattle.mm_definitions.specs.Bounds.{IsName, IsIdentifier, IsSystemName, IsDe
 use Rattle.mm_definitions.specs.declared.commands.Matrix.{Matrix}
 use Rattle.mm_definitions.specs.declared.commands.Piece.{Piece}
 use Rattle.mm_definitions.specs.declared.commands.Piece.TheVariants as pieces
-use Rattle.mm_definitions.specs.declared.commands.Piece.TheVariants.{Tile, TileDrop, Row, RowDrop, Media, MediaDrop, Map, MapDrop}
+use Rattle.mm_definitions.specs.declared.commands.Piece.TheVariants.{Tile, TileDrop, Row, RowDrop, Media, MediaDrop}
+use Rattle.mm_definitions.specs.declared.commands.Piece.TheVariants.{Map, MapDrop}
 use Rattle.mm_definitions.specs.declared.commands.Command.{Command}
 use Rattle.mm_definitions.specs.declared.commands.Command.TheVariants as commands
 
@@ -23,14 +24,18 @@ pub record IsMatrixWithin (profile : Profile) (m : Matrix) : Type 0 where
 abbrev pub IsPieceWithin : Profile → Piece → Type 0
 IsPieceWithin profile (Tile table zoom column row bytes) = IsName table × IsZoom (pos zoom) × IsTilePlace
     (pos column) × IsTilePlace (pos row) × IsTileBytes bytes
-IsPieceWithin profile (TileDrop table zoom column row) = IsName table × IsZoom (pos zoom) × IsTilePlace (pos column) × IsTilePlace (pos row)
-IsPieceWithin profile (Row table id title note amount) = IsName table × IsId id × IsRemark title × IsRemark note × IsAmount amount
+IsPieceWithin profile (TileDrop table zoom column row) = IsName table × IsZoom (pos zoom) × IsTilePlace (pos column)
+    × IsTilePlace (pos row)
+IsPieceWithin profile (Row table id title note amount) = IsName table × IsId id × IsRemark title × IsRemark note
+    × IsAmount amount
 IsPieceWithin profile (RowDrop table id) = IsName table × IsId id
-IsPieceWithin profile (Media table id content_type bytes) = IsName table × IsId id × IsContentType content_type × IsMediaBytes bytes
+IsPieceWithin profile (Media table id content_type bytes) = IsName table × IsId id × IsContentType content_type
+    × IsMediaBytes bytes
 IsPieceWithin profile (MediaDrop table id) = IsName table × IsId id
 IsPieceWithin profile (Map mapping base_id related_id) = IsName mapping × IsId base_id × IsId related_id
 IsPieceWithin profile (MapDrop mapping base_id related_id) = IsName mapping × IsId base_id × IsId related_id
-IsPieceWithin profile (pieces.Matrix table zoom matrix) = IsName table × IsZoom (pos zoom) × IsMatrixWithin profile matrix
+IsPieceWithin profile (pieces.Matrix table zoom matrix) = IsName table × IsZoom (pos zoom)
+    × IsMatrixWithin profile matrix
 
 -- an edition of the profile can hold the piece
 abbrev pub Takes : Profile → Piece → Type 0
@@ -40,7 +45,8 @@ Takes profile _ = ⊤
 -- each field of a command is within its limits, and what it stages is a piece that the profile takes
 abbrev pub IsWithin : Profile → Command → Type 0
 IsWithin profile (commands.Srs id name organization organization_id definition description) =
-    IsId id × IsSystemName name × IsSystemName organization × IsId organization_id × IsDefinition definition × IsRemark description
+    IsId id × IsSystemName name × IsSystemName organization × IsId organization_id × IsDefinition definition
+    × IsRemark description
 IsWithin profile (commands.Pyramid table identifier srs min_x min_y max_x max_y step) =
     IsName table × IsIdentifier identifier × IsSystemNumber srs × IsCoordinate profile min_x
     × IsCoordinate profile min_y × IsCoordinate profile max_x × IsCoordinate profile max_y
@@ -51,14 +57,17 @@ IsWithin profile (commands.Relation mapping base related name) = IsName mapping 
 IsWithin profile (commands.RelationDrop mapping) = IsName mapping
 IsWithin profile (commands.Edition name) = IsName name
 IsWithin profile (commands.Discard name) = IsName name
-IsWithin profile (commands.Stage edition number piece) = IsName edition × IsId number × IsPieceWithin profile piece × Takes profile piece
+IsWithin profile (commands.Stage edition number piece) = IsName edition × IsId number × IsPieceWithin profile piece
+    × Takes profile piece
 IsWithin profile (commands.Publish edition) = IsName edition
 IsWithin profile (commands.Rehearse edition) = IsName edition
 IsWithin profile (commands.Tile table zoom column row bytes) = IsPieceWithin profile (Tile table zoom column row bytes)
 IsWithin profile (commands.TileDrop table zoom column row) = IsPieceWithin profile (TileDrop table zoom column row)
 IsWithin profile (commands.Row table id title note amount) = IsPieceWithin profile (Row table id title note amount)
 IsWithin profile (commands.RowDrop table id) = IsPieceWithin profile (RowDrop table id)
-IsWithin profile (commands.Media table id content_type bytes) = IsPieceWithin profile (Media table id content_type bytes)
+IsWithin profile (commands.Media table id content_type bytes) =
+    IsPieceWithin profile (Media table id content_type bytes)
 IsWithin profile (commands.MediaDrop table id) = IsPieceWithin profile (MediaDrop table id)
 IsWithin profile (commands.Map mapping base_id related_id) = IsPieceWithin profile (Map mapping base_id related_id)
-IsWithin profile (commands.MapDrop mapping base_id related_id) = IsPieceWithin profile (MapDrop mapping base_id related_id)
+IsWithin profile (commands.MapDrop mapping base_id related_id) =
+    IsPieceWithin profile (MapDrop mapping base_id related_id)

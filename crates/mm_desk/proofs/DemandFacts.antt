@@ -11,12 +11,14 @@ not_lone P [] more h = absurd (omega (arith, more))
 not_lone P (v ∷ []) more h = absurd (omega (arith, more))
 not_lone P (v ∷ w ∷ vs) more h = h
 
-pub host_once : (port : ℕ) (vs : List Text) (f : FieldValue) → IsFieldValue vs f → IsHostField port f → Once (IsHost port) vs
+pub host_once : (port : ℕ) (vs : List Text) (f : FieldValue) → IsFieldValue vs f → IsHostField port f
+    → Once (IsHost port) vs
 host_once port vs (fields.Once v) is h = subst (Once (IsHost port)) (sym is) h
 host_once port vs fields.Absent is h = absurd h
 host_once port vs fields.Often is h = absurd h
 
-pub origin_lone : (port : ℕ) (vs : List Text) (f : FieldValue) → IsFieldValue vs f → IsOriginField port f → Lone (IsOrigin port) vs
+pub origin_lone : (port : ℕ) (vs : List Text) (f : FieldValue) → IsFieldValue vs f → IsOriginField port f
+    → Lone (IsOrigin port) vs
 origin_lone port vs (fields.Once v) is h = subst (Lone (IsOrigin port)) (sym is) h
 origin_lone port vs fields.Absent is h = subst (Lone (IsOrigin port)) (sym is) h
 origin_lone port vs fields.Often is h = absurd h

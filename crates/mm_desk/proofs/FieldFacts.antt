@@ -13,12 +13,17 @@ as_if : (v : Text) (b : Bool) → (if b then v ∷ [] else []) ≡ own v b
 as_if v true = refl
 as_if v false = refl
 
-pub named_push : (name : Text) (hs : List Header) (h : Header) → values_named name (hs ++ h ∷ []) ≡ values_named name hs ++ own h.1 (is_named name h)
+pub named_push : (name : Text) (hs : List Header) (h : Header) → values_named name (hs ++ h ∷ []) ≡ values_named name hs
+    ++ own h.1 (is_named name h)
 named_push name hs h = flat_map-append (λ it. if is_named name it then it.1 ∷ [] else []) hs (h ∷ [])
-    ∙ ap (λ l. values_named name hs ++ l) (append-nil (if is_named name h then h.1 ∷ [] else []) ∙ as_if h.1 (is_named name h))
+    ∙ ap (λ l. values_named name hs ++ l) (append-nil (if is_named name h then h.1 ∷ [] else [])
+    ∙ as_if h.1 (is_named name h))
 
-pub named_yes : (name : Text) (hs : List Header) (h : Header) → is_named name h ≡ true → values_named name (hs ++ h ∷ []) ≡ values_named name hs ++ h.1 ∷ []
+pub named_yes : (name : Text) (hs : List Header) (h : Header) → is_named name h ≡ true
+    → values_named name (hs ++ h ∷ []) ≡ values_named name hs ++ h.1 ∷ []
 named_yes name hs h is = named_push name hs h ∙ ap (λ b. values_named name hs ++ own h.1 b) is
 
-pub named_no : (name : Text) (hs : List Header) (h : Header) → is_named name h ≡ false → values_named name (hs ++ h ∷ []) ≡ values_named name hs
-named_no name hs h is = named_push name hs h ∙ ap (λ b. values_named name hs ++ own h.1 b) is ∙ append-nil (values_named name hs)
+pub named_no : (name : Text) (hs : List Header) (h : Header) → is_named name h ≡ false
+    → values_named name (hs ++ h ∷ []) ≡ values_named name hs
+named_no name hs h is = named_push name hs h ∙ ap (λ b. values_named name hs ++ own h.1 b) is
+    ∙ append-nil (values_named name hs)

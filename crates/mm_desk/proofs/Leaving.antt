@@ -11,5 +11,6 @@ no_more (inr nothing) = absurd nothing
 pub clean_before : (old new : State) → LeavesPackage old new → HasCleanDisk new → HasCleanDisk old
 clean_before old new leaves clean = omega (arith, leaves.survives.clean, clean)
 
-pub left_before : (old new : State) → LeavesPackage old new → HasCleanDisk new → (db : Trees) → new.may_leave db → old.may_leave db
+pub left_before : (old new : State) → LeavesPackage old new → HasCleanDisk new → (db : Trees) → new.may_leave db
+    → old.may_leave db
 left_before old new leaves clean db may = no_more (leaves.survives.crash clean db may)

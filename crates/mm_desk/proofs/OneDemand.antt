@@ -20,7 +20,8 @@ module _ (fields : List Header) (minor : ℕ) where
   sent_one d e (inr a) (inr b) = a.1 ∙ sym b.1
 
   module _ (method : Text) where
-    taken_one : (rest : Text) (d e : Demand) → IsTaken method fields minor rest d → IsTaken method fields minor rest e → d ≡ e
+    taken_one : (rest : Text) (d e : Demand) → IsTaken method fields minor rest d → IsTaken method fields minor rest e
+        → d ≡ e
     taken_one rest d e (inl a) (inl b) = a.1 ∙ sym b.1
     taken_one rest d e (inl a) (inr (inl b)) = get_or_post method a.0 b.0
     taken_one rest d e (inl a) (inr (inr (inl b))) = get_or_post method a.0 b.0
@@ -40,11 +41,13 @@ module _ (fields : List Header) (minor : ℕ) where
 
     -- what is demanded by a path, behind the key or not
     abbrev Behind : Text → Text → Demand → Type 0
-    Behind front path d = ((rest : Text) × (path ≡ front ++ rest) × IsTaken method fields minor rest d) ⊎ (((rest : Text) → path ≢ front ++ rest) × (d ≡ Refuse 404))
+    Behind front path d = ((rest : Text) × (path ≡ front ++ rest) × IsTaken method fields minor rest d)
+        ⊎ (((rest : Text) → path ≢ front ++ rest) × (d ≡ Refuse 404))
 
     behind_one : (front path : Text) (d e : Demand) → Behind front path d → Behind front path e → d ≡ e
     behind_one front path d e (inl (rest, is, taken)) (inl (other, same, too)) =
-        taken_one other d e (subst (λ r. IsTaken method fields minor r d) (append_cancel_left front rest other (sym is ∙ same)) taken) too
+        taken_one other d e (subst (λ r. IsTaken method fields minor r d)
+        (append_cancel_left front rest other (sym is ∙ same)) taken) too
     behind_one front path d e (inl (rest, is, taken)) (inr (none, refused)) = absurd (none rest is)
     behind_one front path d e (inr (none, refused)) (inl (other, same, too)) = absurd (none other same)
     behind_one front path d e (inr (none, refused)) (inr (never, too)) = refused ∙ sym too
@@ -61,4 +64,5 @@ module _ (fields : List Header) (minor : ℕ) where
     demand_one port front target d e (inr (inr a)) (inl b) = absurd (b.0 a.0)
     demand_one port front target d e (inr (inr (lets, inl get, behind))) (inr (inl b)) = absurd (b.1 get)
     demand_one port front target d e (inr (inr (lets, inr post, behind))) (inr (inl b)) = absurd (b.2 post)
-    demand_one port front target d e (inr (inr (lets, way, behind))) (inr (inr (too, other, same))) = behind_one front (path_of target) d e behind same
+    demand_one port front target d e (inr (inr (lets, way, behind))) (inr (inr (too, other, same))) =
+        behind_one front (path_of target) d e behind same

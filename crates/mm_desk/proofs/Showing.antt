@@ -1,5 +1,6 @@
 -- What is shown to a path.
-use Rattle.std.proofs.Common.{◌≡◌, ◌∙◌, inl, inr, ℕ, ◌++◌, ◌∷◌, [], Option, Result, IfOk, IfErr, refl, sym, arith, codes}
+use Rattle.std.proofs.Common.{◌≡◌, ◌∙◌, inl, inr, ℕ, ◌++◌, ◌∷◌, [], Option, Result, IfOk, IfErr, refl, sym, arith}
+use Rattle.std.proofs.Common.{codes}
 use Rattle.std.specs.declared.alloc.Global.{Global}
 use Rattle.std.specs.declared.vec.Vec.{Vec}
 use Rattle.std.proofs.lemmas.Result.{IfErr-weaker, IfOk-weaker}
@@ -22,13 +23,15 @@ use Rattle.mm_desk.specs.Replies.{AsksPart, IsReply, ShowsTo}
 pub part_ascii : (path : Text) → AsksPart path → IsAscii path
 part_ascii path (inl (table, first, (id, is, name, number))) =
     rw is (IsAscii-append (codes "/rows/") (table ++ 47 ∷ id) (ascii_word (codes "/rows/") refl)
-    (IsAscii-append table (47 ∷ id) (name_ascii table name) (IsAscii-append (47 ∷ []) id (ascii_word (47 ∷ []) refl) (spelled_ascii id first number.0))))
+    (IsAscii-append table (47 ∷ id) (name_ascii table name)
+    (IsAscii-append (47 ∷ []) id (ascii_word (47 ∷ []) refl) (spelled_ascii id first number.0))))
 part_ascii path (inr (w, routed)) = asks_ascii path w routed
 
 -- ---- the response
 
 module _ {D : Type 0} (view : viewers.Ghosts D) (page : Option Text) (path : Text) where
-  pub asks_nothing : (desk : D) (r : Result (Vec ℕ Global) Fault) → ¬ (AsksPart path) → IfOk r (λ v. v.items ≡ response_of NotFound) → IfErr r (λ f. f.0 ≡ 90)
+  pub asks_nothing : (desk : D) (r : Result (Vec ℕ Global) Fault) → ¬ (AsksPart path)
+      → IfOk r (λ v. v.items ≡ response_of NotFound) → IfErr r (λ f. f.0 ≡ 90)
       → MakesResponse view desk desk r (ShowsTo page path) (AsksPart path)
   asks_nothing desk r none bytes memory = record {
     same = refl;
@@ -39,7 +42,8 @@ module _ {D : Type 0} (view : viewers.Ghosts D) (page : Option Text) (path : Tex
   }
 
   pub replied : (old new : D) (r : Result (Vec ℕ Global) Fault) (told : Package → Text) → IsReply view old new r told
-      → ((p : Package) (bytes : Text) → bytes ≡ told p → ShowsTo page path p bytes) → AsksPart path → MakesResponse view old new r (ShowsTo page path) (AsksPart path)
+      → ((p : Package) (bytes : Text) → bytes ≡ told p → ShowsTo page path p bytes) → AsksPart path
+      → MakesResponse view old new r (ShowsTo page path) (AsksPart path)
   replied old new r told it shows asks = record {
     same = it.same;
     kept = it.kept;

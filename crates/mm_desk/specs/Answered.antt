@@ -1,5 +1,6 @@
 -- What a desk answers to one request, and what that does to its session.
-use Rattle.std.specs.Prelude.{◌≡◌, ◌⊎◌, ◌≤◌, ◌<◌, ◌+◌, ℕ, Bool, true, [], ◌++◌, Option, Result, Ok, Err, IfSome, length, map, option_map, take}
+use Rattle.std.specs.Prelude.{◌≡◌, ◌⊎◌, ◌≤◌, ◌<◌, ◌+◌, ℕ, Bool, true, [], ◌++◌, Option, Result, Ok, Err, IfSome, length}
+use Rattle.std.specs.Prelude.{map, option_map, take}
 use Rattle.std.specs.Io.KnownBytes.{Appends, Consumes}
 use Rattle.httparse.specs.Grammar.{RequestHead}
 use Rattle.httparse.specs.Spans.{name_and_value}
@@ -39,7 +40,8 @@ Demands gate input d rest = (h : RequestHead) × (head : IsHead MostHeadBytes Mo
 abbrev pub IsHeadless : Text → Type 0
 IsHeadless input = (h : RequestHead) → ¬ (IsHead MostHeadBytes MostHeadLines input h)
 
--- what is answered where no records are run, by what is asked for and what stands behind the head: records that did not come whole are not run
+-- what is answered where no records are run, by what is asked for and what stands behind the head: records that did not
+-- come whole are not run
 abbrev pub IsShownFor : Option Text → Package → Demand → Text → Text → Type 0
 IsShownFor page p (Show path) rest response = ShowsTo page path p response
 IsShownFor page p (Records n waits) rest response = (length rest < n) × (response ≡ go_on waits ++ refusal_of 400)
@@ -57,7 +59,8 @@ module _ (page : Option Text) (Asked : Text → Demand → Text → Type 0) (Hea
 
   -- records are sent, and came whole: this body, whose sender waits or not
   abbrev pub SendsRecords : Text → Text → Bool → Type 0
-  SendsRecords input body waits = (n : ℕ) × (rest : Text) × Asked input (Records n waits) rest × (n ≤ length rest) × (body ≡ take n rest)
+  SendsRecords input body waits = (n : ℕ) × (rest : Text) × Asked input (Records n waits) rest × (n ≤ length rest)
+      × (body ≡ take n rest)
 
   -- the desk is to end
   abbrev pub AsksToEnd : Text → Type 0
@@ -71,54 +74,67 @@ module _ (page : Option Text) (Asked : Text → Demand → Text → Type 0) (Hea
   abbrev pub AsksToLook : Text → Type 0
   AsksToLook input = (path rest : Text) × Asked input (Show path) rest × AsksPart path
 
-  -- what is written before the first answer to a record: the response, or the words that end the desk, or the head of the answers
+  -- what is written before the first answer to a record: the response, or the words that end the desk, or the head of
+  -- the answers
   abbrev pub IsResponse : Package → Text → Text → Type 0
   IsResponse p input bytes = ShowsResponse p input bytes ⊎ (AsksToEnd input × (bytes ≡ ended))
       ⊎ ((body : Text) × (waits : Bool) × SendsRecords input body waits × (bytes ≡ go_on waits ++ answers_head))
 
   -- nothing was written, but to a sender that waits that it may go on
   abbrev pub HasBegun : Option Text → Written → Written → Type 0
-  HasBegun source old new = (waits : Bool) × Appends old.contents new.contents (go_on waits) × (waits ≡ true → IfSome source Waits)
+  HasBegun source old new = (waits : Bool) × Appends old.contents new.contents (go_on waits)
+      × (waits ≡ true → IfSome source Waits)
 
   -- A front of the response was written, of each package that is on.
   abbrev pub IsBegunAnswer : (Package → Type 0) → Option Text → Text → Type 0
-  IsBegunAnswer on source begun = (p : Package) → on p → IfSome source (λ input. (more : Text) × IsResponse p input (begun ++ more))
+  IsBegunAnswer on source begun = (p : Package) → on p
+      → IfSome source (λ input. (more : Text) × IsResponse p input (begun ++ more))
 
-  -- Why it was not answered whole: 90, 91, 92, or 96 where the reader has failed; or 97 where the writer has, behind a front of the response.
+  -- Why it was not answered whole: 90, 91, 92, or 96 where the reader has failed; or 97 where the writer has, behind a
+  -- front of the response.
   abbrev pub IsCutAnswer : Bool → (Package → Type 0) → Option Text → Bool → Written → Written → Fault → Type 0
   IsCutAnswer failed on source reading old new fault =
       ((IsPageFault failed fault ⊎ ((fault.0 ≡ faults.input.0) × (reading ≡ true))) × HasBegun source old new)
       ⊎ ((fault.0 ≡ faults.output.0) × (new.failed ≡ true) × (begun : Text) × Appends old.contents new.contents begun
       × IsBegunAnswer on source begun)
 
-  module _ {D : Type 0} (view : viewers.Ghosts D) (apply : applies.Ghosts D) (moment : ℕ) (source : Option Text) (reading : Bool)
+  module _ {D : Type 0} (view : viewers.Ghosts D) (apply : applies.Ghosts D) (moment : ℕ) (source : Option Text)
+      (reading : Bool)
       (old new : D) (output output_now : Written) where
     -- each package of the rules that the session reads as
     abbrev pub On : Package → Type 0
     On = IsOn (view.has_failed old) (view.store old) (view.store new)
 
-    -- What was written, and what that did to the session: its records were run behind the head of the answers, those of the body that was
-    -- sent; or the response was written, and the session is as it was but for reads, as it is with every fault.
+    -- What was written, and what that did to the session: its records were run behind the head of the answers, those of
+    -- the body that was sent; or the response was written, and the session is as it was but for reads, as it is with
+    -- every fault.
     abbrev pub IsDeskAnswered : Result Done PageFault → Type 0
-    IsDeskAnswered (Ok (dones.Ran run)) = (body : Text) × (waits : Bool) × (between : Written) × IfSome source (λ input. SendsRecords input body waits)
-        × IsSentWhole output between (go_on waits ++ answers_head) × RunsBody apply moment old new body between output_now run
+    IsDeskAnswered (Ok (dones.Ran run)) = (body : Text) × (waits : Bool) × (between : Written)
+        × IfSome source (λ input. SendsRecords input body waits)
+        × IsSentWhole output between (go_on waits ++ answers_head)
+        × RunsBody apply moment old new body between output_now run
     IsDeskAnswered (Ok dones.Shown) = Stays apply old new × (response : Text) × IsSentWhole output output_now response
         × ((p : Package) → On p → IfSome source (λ input. ShowsResponse p input response))
-    IsDeskAnswered (Ok dones.Ended) = Stays apply old new × IsSentWhole output output_now ended × IfSome source AsksToEnd
-    IsDeskAnswered (Err e) = Stays apply old new × IsCutAnswer (view.has_failed old) On source reading output output_now e.0
+    IsDeskAnswered (Ok dones.Ended) = Stays apply old new × IsSentWhole output output_now ended
+        × IfSome source AsksToEnd
+    IsDeskAnswered (Err e) = Stays apply old new × IsCutAnswer (view.has_failed old) On source reading output output_now
+        e.0
         × (e.0.0 ≡ faults.reopen.0 → IfSome source AsksToLook)
 
 -- ---- a path behind the key
 
-module _ (page : Option Text) (path : Text) {D : Type 0} (view : viewers.Ghosts D) (apply : applies.Ghosts D) (old new : D) (output output_now : Written) where
+module _ (page : Option Text) (path : Text) {D : Type 0} (view : viewers.Ghosts D) (apply : applies.Ghosts D)
+    (old new : D) (output output_now : Written) where
   -- the bytes answer the path, of each package that is on
   abbrev pub IsShownTo : Text → Type 0
-  IsShownTo response = (p : Package) → IsOn (view.has_failed old) (view.store old) (view.store new) p → ShowsTo page path p response
+  IsShownTo response = (p : Package) → IsOn (view.has_failed old) (view.store old) (view.store new) p
+      → ShowsTo page path p response
 
   -- The response was written, or a front of it; or none was made, and nothing was written.
   abbrev pub IsPathAnswered : Result Done PageFault → Type 0
   IsPathAnswered (Ok (dones.Ran run)) = ⊥
-  IsPathAnswered (Ok dones.Shown) = Stays apply old new × (response : Text) × IsSentWhole output output_now response × IsShownTo response
+  IsPathAnswered (Ok dones.Shown) = Stays apply old new × (response : Text) × IsSentWhole output output_now response
+      × IsShownTo response
   IsPathAnswered (Ok dones.Ended) = ⊥
   IsPathAnswered (Err e) = Stays apply old new × (e.0.0 ≡ faults.reopen.0 → AsksPart path)
       × ((IsPageFault (view.has_failed old) e.0 × (output_now ≡ output))
@@ -126,7 +142,8 @@ module _ (page : Option Text) (path : Text) {D : Type 0} (view : viewers.Ghosts 
 
 -- ---- records behind a head
 
-module _ (n : ℕ) (here : Text) {D : Type 0} (apply : applies.Ghosts D) (moment : ℕ) (source : Option Text) (reading : Bool)
+module _ (n : ℕ) (here : Text) {D : Type 0} (apply : applies.Ghosts D) (moment : ℕ) (source : Option Text)
+    (reading : Bool)
     (old new : D) (output output_now : Written) where
   -- with the bytes that are here they came whole; or the input ended before
   abbrev pub AreWhole : Text → Type 0
@@ -135,11 +152,14 @@ module _ (n : ℕ) (here : Text) {D : Type 0} (apply : applies.Ghosts D) (moment
   abbrev pub AreShort : Text → Type 0
   AreShort more = length (here ++ more) < n
 
-  -- They were run, so many bytes; or they did not come whole, and were refused; or it was not told whole, and none was run.
+  -- They were run, so many bytes; or they did not come whole, and were refused; or it was not told whole, and none was
+  -- run.
   abbrev pub IsRecordsRun : Result Done PageFault → Type 0
-  IsRecordsRun (Ok (dones.Ran run)) = (body : Text) × (between : Written) × IfSome source (λ more. AreWhole more × (body ≡ take n (here ++ more)))
+  IsRecordsRun (Ok (dones.Ran run)) = (body : Text) × (between : Written)
+      × IfSome source (λ more. AreWhole more × (body ≡ take n (here ++ more)))
       × IsSentWhole output between answers_head × RunsBody apply moment old new body between output_now run
-  IsRecordsRun (Ok dones.Shown) = Stays apply old new × IsSentWhole output output_now (refusal_of 400) × IfSome source AreShort
+  IsRecordsRun (Ok dones.Shown) = Stays apply old new × IsSentWhole output output_now (refusal_of 400)
+      × IfSome source AreShort
   IsRecordsRun (Ok dones.Ended) = ⊥
   IsRecordsRun (Err e) = Stays apply old new
       × ((((e.0.0 ≡ faults.memory.0) ⊎ ((e.0.0 ≡ faults.input.0) × (reading ≡ true))) × (output_now ≡ output))

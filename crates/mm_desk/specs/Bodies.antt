@@ -23,7 +23,8 @@ pub record RunsBody {A : Type 0} (apply : applies.Ghosts A) (moment : ℕ) (old 
     (output output_now : Written) (result : Result Tally RunFault) : Type 0 where
   pub clean : apply.is_clean new → apply.is_clean old
   -- of a session that read as a package, and so of one that was settled for it (`settled_runs`)
-  pub seen : KeepsRun moment (apply.is_clean new) (apply.seen old) (Some bytes) (apply.has_failed old) (λ p. shown_since apply old p new)
+  pub seen : KeepsRun moment (apply.is_clean new) (apply.seen old) (Some bytes) (apply.has_failed old)
+      (λ p. shown_since apply old p new)
       output output_now result
   pub told : IsToldOf output output_now result
   pub session : RunTellsReopening (apply.has_failed old) (apply.has_failed new) (new ≡ old) result

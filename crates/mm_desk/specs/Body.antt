@@ -13,4 +13,5 @@ IsBody here wanted old now None =
 
 -- no more was read than is wanted
 abbrev pub IsReadFrugally : List ℕ → ℕ → Option (List ℕ) → Option (List ℕ) → Type 0
-IsReadFrugally here wanted old now = (read : List ℕ) × Consumes old now read × (length (take wanted here) + length read ≤ wanted)
+IsReadFrugally here wanted old now = (read : List ℕ) × Consumes old now read
+    × (length (take wanted here) + length read ≤ wanted)

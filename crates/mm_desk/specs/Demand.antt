@@ -1,5 +1,6 @@
 -- What a request is taken for, by the values of its head: the table of the desk, line by line.
-use Rattle.std.specs.Prelude.{◌≡◌, ◌≢◌, ◌⊎◌, ◌++◌, ◌∷◌, [], ℕ, List, Bool, ◌&&◌, ◌==◌, nat_le, if◌then◌else◌, codes, decimal, ⊤}
+use Rattle.std.specs.Prelude.{◌≡◌, ◌≢◌, ◌⊎◌, ◌++◌, ◌∷◌, [], ℕ, List, Bool, ◌&&◌, ◌==◌, nat_le, if◌then◌else◌, codes}
+use Rattle.std.specs.Prelude.{decimal, ⊤}
 use Rattle.std.specs.List.{before_first}
 use Rattle.mm_definitions.specs.Keys.{Text}
 use Rattle.http1.specs.Fields.{Header, known_fields, values_named}
@@ -10,7 +11,8 @@ use Rattle.http1.specs.declared.fields.TransferEncoding.TheVariants as codings
 use Rattle.mm_desk.specs.declared.demand.Taken.{Taken}
 use Rattle.mm_desk.specs.declared.demand.Taken.TheVariants as takens
 
--- a part of the package by a path behind the key; so many bytes of records, whose sender waits or not; an end; or a status
+-- a part of the package by a path behind the key; so many bytes of records, whose sender waits or not; an end; or a
+-- status
 pub data Demand : Type 0 where
   Show : (path : Text) → Demand
   Records : (length : ℕ) (waits : Bool) → Demand

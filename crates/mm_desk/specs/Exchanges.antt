@@ -10,7 +10,8 @@ use Rattle.mm_desk.specs.declared.desk.Done.TheVariants as dones
 
 -- Its records were run, those of some body; or the session is as it was but for reads.
 abbrev pub IsExchange : {A : Type 0} (apply : applies.Ghosts A) → ℕ → A → A → Written → Result Done PageFault → Type 0
-IsExchange apply moment old new after (Ok (dones.Ran run)) = (body : List ℕ) × (between : Written) × RunsBody apply moment old new body between after run
+IsExchange apply moment old new after (Ok (dones.Ran run)) = (body : List ℕ) × (between : Written)
+    × RunsBody apply moment old new body between after run
 IsExchange apply moment old new after (Ok dones.Shown) = Stays apply old new
 IsExchange apply moment old new after (Ok dones.Ended) = Stays apply old new
 IsExchange apply moment old new after (Err fault) = Stays apply old new

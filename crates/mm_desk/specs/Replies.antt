@@ -1,5 +1,6 @@
 -- What a desk shows of a package to a path behind the key.
-use Rattle.std.specs.Prelude.{◌≡◌, ◌⊎◌, ℕ, ℤ, pos, true, false, Bool, [], ◌∷◌, Option, Some, None, Result, Err, IfErr, bytes_eq, codes, if◌then◌else◌}
+use Rattle.std.specs.Prelude.{◌≡◌, ◌⊎◌, ℕ, ℤ, pos, true, false, Bool, [], ◌∷◌, Option, Some, None, Result, Err, IfErr}
+use Rattle.std.specs.Prelude.{bytes_eq, codes, if◌then◌else◌}
 use Rattle.std.specs.FinMap.{get}
 use Rattle.std.specs.declared.alloc.Global.{Global}
 use Rattle.std.specs.declared.vec.Vec.{Vec}
@@ -46,7 +47,8 @@ media_bytes p table id = boxed_medium (get p.media (item table id))
 
 -- as the page shows it, but that a browser runs nothing of the media of other tables than the page's
 abbrev pub desk_bytes : Option Text → Package → Wanted → Text
-desk_bytes page p (Media table id) = if is_page page table then response_of (reply_of p (Media table id)) else media_bytes p table id
+desk_bytes page p (Media table id) = if is_page page table then response_of (reply_of p (Media table id))
+    else media_bytes p table id
 desk_bytes page p (Tile table zoom column row) = response_of (reply_of p (Tile table zoom column row))
 desk_bytes page p (Related table id) = response_of (reply_of p (Related table id))
 desk_bytes page p Contents = response_of (reply_of p Contents)
@@ -64,9 +66,10 @@ ShowsTo page path p bytes =
     ⊎ ((w : Wanted) × IsRouted path w × (bytes ≡ desk_bytes page p w))
     ⊎ (¬ (AsksPart path) × (bytes ≡ response_of NotFound))
 
--- It makes the response that is so told of a package. The package is asked before anything else, so that a session that has failed is
--- answered 92 and nothing else.
-pub record IsReply {V : Type 0} (view : viewers.Ghosts V) (old new : V) (result : Result (Vec ℕ Global) Fault) (told : Package → Text) : Type 0 where
+-- It makes the response that is so told of a package. The package is asked before anything else, so that a session that
+-- has failed is answered 92 and nothing else.
+pub record IsReply {V : Type 0} (view : viewers.Ghosts V) (old new : V) (result : Result (Vec ℕ Global) Fault)
+    (told : Package → Text) : Type 0 where
   pub same : view.has_failed new ≡ view.has_failed old
   pub kept : LeavesPackage (view.store old) (view.store new)
   pub ended : view.has_failed old ≡ true → result ≡ Err reopen

@@ -34,7 +34,8 @@ RunsVisit apply v old new = RunsBody apply v.moment old new v.bytes v.old v.new 
 -- Each list was run on the session that the one before left, with reads between; only the last may have failed it.
 unfoldable pub Sat : {A : Type 0} (apply : applies.Ghosts A) → A → List Visit → A → Type 0
 Sat apply old [] new = Stays apply old new
-Sat {A} apply old (v ∷ []) new = (before behind : A) × Stays apply old before × RunsVisit apply v before behind × Stays apply behind new
+Sat {A} apply old (v ∷ []) new = (before behind : A) × Stays apply old before × RunsVisit apply v before behind
+    × Stays apply behind new
 Sat {A} apply old (v ∷ w ∷ vs) new =
     (before behind : A) × Stays apply old before × RunsVisit apply v before behind
     × (apply.has_failed behind ≡ apply.has_failed before) × Sat apply behind (w ∷ vs) new
@@ -53,14 +54,17 @@ abbrev pub answered_by : Result Tally RunFault → ℕ
 answered_by (Ok t) = t.accepted + t.refused
 answered_by (Err e) = e.tally.accepted + e.tally.refused
 
--- The commands of all lists, and how many of the accepted ones are sure to stand: of each list but the last, all of the records that were
--- answered, and no other was read; of the last, whose readings are those records and perhaps one more, the ones that were acknowledged.
+-- The commands of all lists, and how many of the accepted ones are sure to stand: of each list but the last, all of the
+-- records that were answered, and no other was read; of the last, whose readings are those records and perhaps one
+-- more, the ones that were acknowledged.
 unfoldable pub IsSitting : Package → List Visit → List Call → ℕ → Type 0
 IsSitting p [] calls kept = (calls ≡ []) × (kept ≡ 0)
-IsSitting p (v ∷ []) calls kept = (readings : List Reading) × AreReadOf v readings × (answered_by v.result ≤ length readings)
+IsSitting p (v ∷ []) calls kept = (readings : List Reading) × AreReadOf v readings
+    × (answered_by v.result ≤ length readings)
     × (calls ≡ calls_of v.moment readings)
     × (kept ≡ acknowledged_by p v.moment readings v.result)
-IsSitting p (v ∷ w ∷ vs) calls kept = (readings : List Reading) × AreReadOf v readings × (length readings ≡ answered_by v.result)
+IsSitting p (v ∷ w ∷ vs) calls kept = (readings : List Reading) × AreReadOf v readings
+    × (length readings ≡ answered_by v.result)
     × (rest : List Call) × (more : ℕ)
     × IsSitting (run p (calls_of v.moment readings)) (w ∷ vs) rest more
     × (calls ≡ calls_of v.moment readings ++ rest) × (kept ≡ length (accepted p (calls_of v.moment readings)) + more)

@@ -15,15 +15,19 @@ use Rattle.mm_store.proofs.Quiet.{quiet_then}
 use Rattle.mm_edition.specs.Turns.{Known, Said, Attempts}
 
 module _ {S : Type 0} {g : Ghosts S} where
-  pub attempts : {T : Type 0} {a b : Transaction S} {When : Known} {one : Package → T → Package} {Says : Profile → Package → T → Type 0} {r : Result T Fault}
+  pub attempts : {T : Type 0} {a b : Transaction S} {When : Known} {one : Package → T → Package}
+      {Says : Profile → Package → T → Type 0} {r : Result T Fault}
       → Goes g a b When one Says r
-      → Attempts g a b When (λ profile s ground p it. IsTrue s.is_open × StandsInside profile s ground (one p it) × Says profile p it) r
+      → Attempts g a b When (λ profile s ground p it. IsTrue s.is_open × StandsInside profile s ground (one p it)
+      × Says profile p it) r
   attempts h = record { same = h.same; survives = h.survives; on = h.on; tells = h.comes; faults = h.faults }
 
-  module _ {T U V : Type 0} {a b c : Transaction S} {When Where : Known} {Says : Said T} {More : Said U} {Less : Said V} {x : T} where
+  module _ {T U V : Type 0} {a b c : Transaction S} {When Where : Known} {Says : Said T} {More : Said U} {Less : Said V}
+      {x : T} where
     -- an attempt that comes to its end, behind another
     pub attempts_then : {y : U} {z : V} → Attempts g a b When Says (Ok x) → Attempts g b c Where More (Ok y)
-        → ((profile : Profile) (ground : Ground) (p : Package) → When profile p → Says profile (state g b.conn.now) ground p x
+        → ((profile : Profile) (ground : Ground) (p : Package) → When profile p
+        → Says profile (state g b.conn.now) ground p x
         → (q : Package) × StandsInside profile (state g b.conn.now) ground q × Where profile q
         × (More profile (state g c.conn.now) ground q y → Less profile (state g c.conn.now) ground p z))
         → Attempts g a c When Less (Ok z)
@@ -42,7 +46,8 @@ module _ {S : Type 0} {g : Ghosts S} where
     -- the exit of a `?` behind an attempt
     pub attempts_failed : {e : Fault} {r : Result V Fault}
         → Attempts g a b When Says (Ok x) → Attempts g b c Where More (Err e) → IsErrAnd r (λ f. f ≡ e)
-        → ((profile : Profile) (ground : Ground) (p : Package) → When profile p → Says profile (state g b.conn.now) ground p x
+        → ((profile : Profile) (ground : Ground) (p : Package) → When profile p
+        → Says profile (state g b.conn.now) ground p x
         → (q : Package) × StandsInside profile (state g b.conn.now) ground q × Where profile q)
         → Attempts g a c When Less r
     attempts_failed {e = e} {r = r} h k is leads = record {
@@ -56,22 +61,27 @@ module _ {S : Type 0} {g : Ghosts S} where
     }
 
   -- a first attempt, told in other words
-  pub attempts_as : {T V : Type 0} {a b : Transaction S} {When Where : Known} {Says : Said T} {Less : Said V} {x : T} {z : V}
+  pub attempts_as : {T V : Type 0} {a b : Transaction S} {When Where : Known} {Says : Said T} {Less : Said V} {x : T}
+      {z : V}
       → Attempts g a b When Says (Ok x) → ((profile : Profile) (p : Package) → Where profile p → When profile p)
-      → ((profile : Profile) (ground : Ground) (p : Package) → Where profile p → Says profile (state g b.conn.now) ground p x
+      → ((profile : Profile) (ground : Ground) (p : Package) → Where profile p → Says profile (state g b.conn.now)
+      ground p x
       → Less profile (state g b.conn.now) ground p z)
       → Attempts g a b Where Less (Ok z)
   attempts_as h so tells = record {
     same = h.same;
     survives = h.survives;
     on = λ clean profile ground p it when. h.on clean profile ground p it (so profile p when);
-    tells = λ clean profile ground p it when. tells profile ground p when (h.tells clean profile ground p it (so profile p when));
+    tells = λ clean profile ground p it when. tells profile ground p when
+        (h.tells clean profile ground p it (so profile p when));
     faults = tt;
   }
 
   -- the exit of a `?` at a first attempt
-  pub attempts_not : {T V : Type 0} {a b : Transaction S} {When Where : Known} {Says : Said T} {Less : Said V} {e : Fault} {r : Result V Fault}
-      → Attempts g a b When Says (Err e) → IsErrAnd r (λ f. f ≡ e) → ((profile : Profile) (p : Package) → Where profile p → When profile p)
+  pub attempts_not : {T V : Type 0} {a b : Transaction S} {When Where : Known} {Says : Said T} {Less : Said V}
+      {e : Fault} {r : Result V Fault}
+      → Attempts g a b When Says (Err e) → IsErrAnd r (λ f. f ≡ e)
+      → ((profile : Profile) (p : Package) → Where profile p → When profile p)
       → Attempts g a b Where Less r
   attempts_not {e = e} {r = r} h is so = record {
     same = h.same;
@@ -84,4 +94,11 @@ module _ {S : Type 0} {g : Ghosts S} where
   -- a fault of no call
   pub attempts_fault : {T V : Type 0} {a b : Transaction S} {When : Known} {Says : Said T} {Less : Said V} {x : T}
       → Attempts g a b When Says (Ok x) → Attempts g a b When Less (Err store)
-  attempts_fault h = record { same = h.same; survives = h.survives; on = h.on; tells = λ clean profile ground p it when. tt; faults = inr refl }
+  attempts_fault h = record {
+    same = h.same;
+    survives = h.survives;
+    on = h.on;
+    tells = λ clean profile ground p it when.
+        tt;
+    faults = inr refl;
+  }

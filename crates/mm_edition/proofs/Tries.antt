@@ -52,7 +52,8 @@ an_error (Err s) r e = ap (λ x. Some (record { number = 53; piece = Some x })) 
 
 module _ (edition : Text) where
   module _ (profile : Profile) (p : Package) (meets : Meets profile p) where
-    refusal_is : (v : Option Text) → get p.editions edition ≡ v → refusal p (commands.Publish edition) ≡ of_publish v (edition_trial p edition [])
+    refusal_is : (v : Option Text) → get p.editions edition ≡ v
+        → refusal p (commands.Publish edition) ≡ of_publish v (edition_trial p edition [])
     refusal_is v is = ap (λ x. of_publish x (edition_trial p edition [])) is
 
     -- an edition that nothing refuses is open
@@ -63,7 +64,8 @@ module _ (edition : Text) where
         by None is = absurd (let f : ◌≡◌ {A = Option ℕ} None (Some 51) = none ∙ ap of_closed is in cc)
         by (Some s) is = elim (meets.q15.states edition s is) as (λ _. Some s ≡ Some open_state) [
           | inl e ↦ ap Some e
-          | inr e ↦ absurd (let f : ◌≡◌ {A = Option ℕ} None (Some 55) = none ∙ (ap of_closed is ∙ ap (λ x. of_closed (Some x)) e) in cc)
+          | inr e ↦ absurd (let f : ◌≡◌ {A = Option ℕ} None (Some 55) = none
+              ∙ (ap of_closed is ∙ ap (λ x. of_closed (Some x)) e) in cc)
         ]
 
     -- one that is not is refused for that alone
@@ -71,11 +73,14 @@ module _ (edition : Text) where
         → refusal p (commands.Publish edition) ≡ Some (record { number = n; piece = None })
     refused_closed n why = by (get p.editions edition) refl
       where
-        by : (v : Option Text) → get p.editions edition ≡ v → refusal p (commands.Publish edition) ≡ Some (record { number = n; piece = None })
-        by None is = refusal_is None is ∙ ap (λ x. Some (record { number = x; piece = None })) (sym (same_some (why ∙ ap of_closed is)))
+        by : (v : Option Text) → get p.editions edition ≡ v
+            → refusal p (commands.Publish edition) ≡ Some (record { number = n; piece = None })
+        by None is = refusal_is None is
+            ∙ ap (λ x. Some (record { number = x; piece = None })) (sym (same_some (why ∙ ap of_closed is)))
         by (Some s) is = elim (meets.q15.states edition s is) as (λ _.
             refusal p (commands.Publish edition) ≡ Some (record { number = n; piece = None })) [
-              | inl e ↦ absurd (let f : ◌≡◌ {A = Option ℕ} (Some n) None = why ∙ (ap of_closed is ∙ ap (λ x. of_closed (Some x)) e) in cc)
+              | inl e ↦ absurd (let f : ◌≡◌ {A = Option ℕ} (Some n) None = why
+                  ∙ (ap of_closed is ∙ ap (λ x. of_closed (Some x)) e) in cc)
               | inr e ↦ refusal_is (Some published_state) (is ∙ ap Some e)
                   ∙ ap (λ x. Some (record { number = x; piece = None }))
                   (sym (same_some (why ∙ (ap of_closed is ∙ ap (λ x. of_closed (Some x)) e))))
@@ -83,18 +88,22 @@ module _ (edition : Text) where
 
     module _ (at : Text) (open_is : get p.editions edition ≡ Some open_state) where
       accepted : (q : Package) → edition_trial p edition at ≡ Ok q → refusal p (commands.Publish edition) ≡ None
-      accepted q is = refusal_is (Some open_state) open_is ∙ no_error (edition_trial p edition []) (any_stamp p edition [] at ∙ ap refused_piece is)
+      accepted q is = refusal_is (Some open_state) open_is
+          ∙ no_error (edition_trial p edition []) (any_stamp p edition [] at ∙ ap refused_piece is)
 
       refused_at : (r : PieceRefusal) → edition_trial p edition at ≡ Err r
           → refusal p (commands.Publish edition) ≡ Some (record { number = 53; piece = Some r })
       refused_at r is = refusal_is (Some open_state) open_is
           ∙ an_error (edition_trial p edition []) r (any_stamp p edition [] at ∙ ap refused_piece is)
 
-      step_is : (q : Package) → edition_trial p edition at ≡ Ok q → step_at p (commands.Publish edition) at ≡ closed edition q
-      step_is q is = ap (λ r. unless_refused r (done p (commands.Publish edition) at) p) (accepted q is) ∙ ap (λ t. closed_by edition t p) is
+      step_is : (q : Package) → edition_trial p edition at ≡ Ok q
+          → step_at p (commands.Publish edition) at ≡ closed edition q
+      step_is q is = ap (λ r. unless_refused r (done p (commands.Publish edition) at) p) (accepted q is)
+          ∙ ap (λ t. closed_by edition t p) is
 
 -- the look whether the edition is open
-abbrev Looked : {S : Type 0} (g : Ghosts S) (old new : Transaction S) (edition : Text) → Result (Option ℕ) Fault → Type 0
+abbrev Looked : {S : Type 0} (g : Ghosts S) (old new : Transaction S) (edition : Text) → Result (Option ℕ) Fault
+    → Type 0
 Looked g old new edition = Tells g old new (λ p. least (own_reasons p (commands.Discard edition)))
 
 module _ {S : Type 0} {g : Ghosts S} {a b : Transaction S} {edition at : Text} where
@@ -105,7 +114,8 @@ module _ {S : Type 0} {g : Ghosts S} {a b : Transaction S} {edition at : Text} w
         (λ profile ground p when end. refused_closed edition profile p when.0 n (sym is ∙ end.2));
   }
 
-  pub looked_in_vain : {e : Fault} {r : Result Outcome Fault} → Looked g a b edition (Err e) → IsErrAnd r (λ f. f ≡ e) → Publishes g a b edition at r
+  pub looked_in_vain : {e : Fault} {r : Result Outcome Fault} → Looked g a b edition (Err e) → IsErrAnd r (λ f. f ≡ e)
+      → Publishes g a b edition at r
   looked_in_vain look is = record { attempt = attempts_not (attempts look) is (λ profile p when. tt) }
 
 -- the trial begins on the same package, whose edition is open
@@ -114,10 +124,12 @@ Opened g old new edition at =
     Attempts g old new {T = ⊤} (IsStamped at) (λ profile s ground p it. StandsInside profile s ground p
     × (get p.editions edition ≡ Some open_state)) (Ok tt)
 
-opened : {S : Type 0} {g : Ghosts S} {a b : Transaction S} (edition at : Text) {why : Option ℕ} → Looked g a b edition (Ok why) → why ≡ None
+opened : {S : Type 0} {g : Ghosts S} {a b : Transaction S} (edition at : Text) {why : Option ℕ}
+    → Looked g a b edition (Ok why) → why ≡ None
     → Opened g a b edition at
 opened edition at look none =
-    attempts_as (attempts look) (λ profile p when. tt) (λ profile ground p when end. (end.1, stands_open edition profile p when.0 (sym none ∙ end.2)))
+    attempts_as (attempts look) (λ profile p when. tt)
+    (λ profile ground p when end. (end.1, stands_open edition profile p when.0 (sym none ∙ end.2)))
 
 -- the pieces were done, and the edition stands
 abbrev Edited : {S : Type 0} (g : Ghosts S) (old new : Transaction S) (edition at : Text) → Type 0
@@ -139,24 +151,29 @@ module _ {S : Type 0} {g : Ghosts S} {a b c : Transaction S} {edition at : Text}
     ));
   }
 
-  pub pieces_in_vain : {e : Fault} {r : Result Outcome Fault} → Looked g a b edition (Ok why) → why ≡ None → TriesPieces g b c edition at (Err e)
+  pub pieces_in_vain : {e : Fault} {r : Result Outcome Fault} → Looked g a b edition (Ok why) → why ≡ None
+      → TriesPieces g b c edition at (Err e)
       → IsErrAnd r (λ f. f ≡ e) → Publishes g a c edition at r
   pieces_in_vain look none trial is = record {
-    attempt = attempts_failed (opened edition at look none) trial.attempt is (λ profile ground p when it. (p, it.0, (when.0, it.1, when.1, when.2)));
+    attempt = attempts_failed (opened edition at look none) trial.attempt is
+        (λ profile ground p when it. (p, it.0, (when.0, it.1, when.1, when.2)));
   }
 
-  pub edited : {piece : Option PieceRefusal} → Looked g a b edition (Ok why) → why ≡ None → TriesPieces g b c edition at (Ok piece) → piece ≡ None
+  pub edited : {piece : Option PieceRefusal} → Looked g a b edition (Ok why) → why ≡ None
+      → TriesPieces g b c edition at (Ok piece) → piece ≡ None
       → Edited g a c edition at
-  edited look none trial went = attempts_then (opened edition at look none) (rw went at trial.attempt) (λ profile ground p when it. (
-    p,
-    it.0,
-    (when.0, it.1, when.1, when.2),
-    λ told. (told.0, told.1, told.4, ap is_some (ap (λ m. get m edition) told.2 ∙ it.1), it.1),
-  ))
+  edited look none trial went = attempts_then (opened edition at look none) (rw went at trial.attempt)
+      (λ profile ground p when it. (
+        p,
+        it.0,
+        (when.0, it.1, when.1, when.2),
+        λ told. (told.0, told.1, told.4, ap is_some (ap (λ m. get m edition) told.2 ∙ it.1), it.1),
+      ))
 
 -- the edition is closed behind the trial
 module _ {S : Type 0} {g : Ghosts S} {a b c : Transaction S} {edition at : Text} (it : Edited g a b edition at) where
-  pub closes : {T : Type 0} {u : T} → ChangesWhere g b c (λ p. contains_key p.editions edition ≡ true) (closed edition) (Ok u)
+  pub closes : {T : Type 0} {u : T} → ChangesWhere g b c (λ p. contains_key p.editions edition ≡ true) (closed edition)
+      (Ok u)
       → Publishes g a c edition at (Ok outcome.Done)
   closes change = record {
     attempt = attempts_then it (attempts change) (λ profile ground p when end. (
@@ -166,7 +183,8 @@ module _ {S : Type 0} {g : Ghosts S} {a b c : Transaction S} {edition at : Text}
       λ made. (
         accepted edition profile p when.0 at end.4 end.0 end.1,
         made.0,
-        subst (StandsInside profile (state g c.conn.now) ground) (sym (step_is edition profile p when.0 at end.4 end.0 end.1)) made.1,
+        subst (StandsInside profile (state g c.conn.now) ground)
+            (sym (step_is edition profile p when.0 at end.4 end.0 end.1)) made.1,
       ),
     ));
   }
@@ -174,17 +192,22 @@ module _ {S : Type 0} {g : Ghosts S} {a b c : Transaction S} {edition at : Text}
   pub closes_not : {T : Type 0} {e : Fault} {r : Result Outcome Fault}
       → ChangesWhere g b c {T = T} (λ p. contains_key p.editions edition ≡ true) (closed edition) (Err e)
       → IsErrAnd r (λ f. f ≡ e) → Publishes g a c edition at r
-  closes_not change is = record { attempt = attempts_failed it (attempts change) is (λ profile ground p when end. (end.0, end.2, end.3)) }
+  closes_not change is = record {
+    attempt = attempts_failed it (attempts change) is
+        (λ profile ground p when end. (end.0, end.2, end.3));
+  }
 
 -- ---- told of states
 
-tries_at : (profile : Profile) (s : State) (ground : Ground) (p : Package) (edition at : Text) (r : Result Outcome Fault)
+tries_at : (profile : Profile) (s : State) (ground : Ground) (p : Package) (edition at : Text)
+    (r : Result Outcome Fault)
     → IfOk r (TellsPublish edition at profile s ground p)
     → Tries profile s ground p (refusal p (commands.Publish edition)) (step_at p (commands.Publish edition) at) r
 tries_at profile s ground p edition at (Ok it) h = h
 tries_at profile s ground p edition at (Err e) h = tt
 
-module _ {S : Type 0} {g : Ghosts S} {a b : Transaction S} {edition at : Text} {r : Result Outcome Fault} (h : Publishes g a b edition at r) where
+module _ {S : Type 0} {g : Ghosts S} {a b : Transaction S} {edition at : Text} {r : Result Outcome Fault}
+    (h : Publishes g a b edition at r) where
   pub publish_tried : (profile : Profile) (moment : ℕ) → IsStamp moment at
       → IsTried profile (commands.Publish edition) moment (state g a.conn.now) (state g b.conn.now) r
   publish_tried profile moment stamped = record {
@@ -192,8 +215,10 @@ module _ {S : Type 0} {g : Ghosts S} {a b : Transaction S} {edition at : Text} {
     on = λ clean ground p it. h.attempt.on clean profile ground p it.inside (it.meets, moment, stamped);
     tries = λ clean ground p it.
         let c = commands.Publish edition in
-        subst (λ text. Tries profile (state g b.conn.now) ground p (refusal p c) (step_at p c text) r) (stamp_only moment at stamped)
-        (tries_at profile (state g b.conn.now) ground p edition at r (h.attempt.tells clean profile ground p it.inside (it.meets, moment, stamped)));
+        subst (λ text. Tries profile (state g b.conn.now) ground p (refusal p c) (step_at p c text) r)
+        (stamp_only moment at stamped)
+        (tries_at profile (state g b.conn.now) ground p edition at r
+        (h.attempt.tells clean profile ground p it.inside (it.meets, moment, stamped)));
     faults = h.attempt.faults;
   }
 

@@ -1,5 +1,6 @@
 -- How the look for a piece and the call that it is taken as make one turn of publishing.
-use Rattle.std.proofs.Common.{◌≡◌, ℕ, pos, [], Option, Some, None, option_map, Result, Ok, Err, refl, sym, ap, subst, ◌∙◌}
+use Rattle.std.proofs.Common.{◌≡◌, ℕ, pos, [], Option, Some, None, option_map, Result, Ok, Err, refl, sym, ap, subst}
+use Rattle.std.proofs.Common.{◌∙◌}
 use Rattle.std.specs.Prelude.{IsErrAnd}
 use Rattle.std.specs.FinMap.{get}
 use Rattle.sqlite.specs.Store.{Ghosts}
@@ -69,9 +70,11 @@ as_turn (outcome.Refused why) = Refused (reason_of why)
 
 module _ (edition : Text) (number : ℕ) (at : Text) where
   -- the command of the piece that stands gives what its turn gives
-  command_turn : (p : Package) (q : Piece) (it : Outcome) → get p.pieces (piece edition (pos number)) ≡ Some (piece_row q)
+  command_turn : (p : Package) (q : Piece) (it : Outcome)
+      → get p.pieces (piece edition (pos number)) ≡ Some (piece_row q)
       → refusal p (piece_command q) ≡ refused_as it
-      → (after_turn edition number at p (as_turn it) ≡ step_at p (piece_command q) at) × TellsPieceTurn edition number p (as_turn it)
+      → (after_turn edition number at p (as_turn it) ≡ step_at p (piece_command q) at)
+      × TellsPieceTurn edition number p (as_turn it)
   command_turn p q outcome.Done there accepted = (
     ap (row_given p at) there ∙ ap (piece_given p at) (read_back q)
         ∙ sym (ap (λ r. unless_refused r (done p (piece_command q) at) p) accepted ∙ piece_done p q at),
@@ -89,38 +92,52 @@ module _ {S : Type 0} (g : Ghosts S) (old new : Transaction S) (edition : Text) 
 
   -- the command that it is taken as
   abbrev Taken : Outline → Text → Result Outcome Fault → Type 0
-  Taken outline at = LendsFor g old new (HoldsPiece edition number outline) (λ bytes. piece_command (with_bytes bytes outline)) at
+  Taken outline at = LendsFor g old new (HoldsPiece edition number outline)
+      (λ bytes. piece_command (with_bytes bytes outline)) at
 
 module _ {S : Type 0} {g : Ghosts S} {a b : Transaction S} {edition : Text} {number : ℕ} {at : Text} where
-  pub turn_ends : {found : Option Outline} → Found g a b edition number (Ok found) → found ≡ None → TakesTurn g a b edition number at (Ok End)
+  pub turn_ends : {found : Option Outline} → Found g a b edition number (Ok found) → found ≡ None
+      → TakesTurn g a b edition number at (Ok End)
   turn_ends look none = record {
     goes = goes_as (goes_given look (λ profile p meets. tt))
-        (λ profile p meets says. let told = says meets in (refl, told.1 ∙ ap (option_map (λ (it : Outline). piece_row (with_bytes told.0 it))) none));
+        (λ profile p meets says. let told =
+        says meets in (refl, told.1 ∙ ap (option_map (λ (it : Outline). piece_row (with_bytes told.0 it))) none));
   }
 
-  pub turn_looked_in_vain : {e : Fault} {r : Result Turn Fault} → Found g a b edition number (Err e) → IsErrAnd r (λ f. f ≡ e)
+  pub turn_looked_in_vain : {e : Fault} {r : Result Turn Fault} → Found g a b edition number (Err e)
+      → IsErrAnd r (λ f. f ≡ e)
       → TakesTurn g a b edition number at r
   turn_looked_in_vain look is = record { goes = failed look is }
 
 -- ---- the piece is taken as its command
 
 module _ {S : Type 0} {g : Ghosts S} {a b c : Transaction S} {found : Option Outline} {outline : Outline} where
-  took : (edition : Text) (number : ℕ) (at : Text) {r : Result Outcome Fault} → Found g a b edition number (Ok found) → found ≡ Some outline
+  took : (edition : Text) (number : ℕ) (at : Text) {r : Result Outcome Fault} → Found g a b edition number (Ok found)
+      → found ≡ Some outline
       → Taken g b c edition number outline at r
-      → Goes g a c Meets (λ p it. after_turn edition number at p (as_turn it)) (λ profile p it. TellsPieceTurn edition number p (as_turn it)) r
-  took edition number at look is taken = goes_for (goes_given look (λ profile p meets. tt)) [] taken.goes (λ profile p meets says.
+      → Goes g a c Meets (λ p it. after_turn edition number at p (as_turn it))
+      (λ profile p it. TellsPieceTurn edition number p (as_turn it)) r
+  took edition number at look is taken = goes_for (goes_given look (λ profile p meets. tt)) [] taken.goes
+      (λ profile p meets says.
       let told = says meets in
       let there = told.1 ∙ ap (option_map (λ (it : Outline). piece_row (with_bytes told.0 it))) is in
       (told.0, (meets, there), λ it more. command_turn edition number at p (with_bytes told.0 outline) it there more))
 
   module _ {edition : Text} {number : ℕ} {at : Text} where
-    pub turn_taken : {it : Outcome} {turn : Turn} → Found g a b edition number (Ok found) → found ≡ Some outline → Taken g b c edition number outline at (Ok it)
+    pub turn_taken : {it : Outcome} {turn : Turn} → Found g a b edition number (Ok found) → found ≡ Some outline
+        → Taken g b c edition number outline at (Ok it)
         → turn ≡ as_turn it → TakesTurn g a c edition number at (Ok turn)
     turn_taken look is taken same = record {
       goes = goes_as (took edition number at look is taken)
-          (λ profile p meets says. (ap (after_turn edition number at p) same, subst (TellsPieceTurn edition number p) (sym same) says));
+          (λ profile p meets says. (
+            ap (after_turn edition number at p) same,
+            subst (TellsPieceTurn edition number p)
+                (sym same) says,
+          ));
     }
 
-    pub turn_gave_up : {e : Fault} {r : Result Turn Fault} → Found g a b edition number (Ok found) → found ≡ Some outline
+    pub turn_gave_up : {e : Fault} {r : Result Turn Fault} → Found g a b edition number (Ok found)
+        → found ≡ Some outline
         → Taken g b c edition number outline at (Err e) → IsErrAnd r (λ f. f ≡ e) → TakesTurn g a c edition number at r
-    turn_gave_up look is taken gave_up = record { goes = failed_where (took edition number at look is taken) gave_up (λ profile p meets. meets) }
+    turn_gave_up look is taken gave_up =
+        record { goes = failed_where (took edition number at look is taken) gave_up (λ profile p meets. meets) }

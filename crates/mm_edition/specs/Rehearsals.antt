@@ -21,11 +21,13 @@ TellsRefusal p edition (Ok Done) = refusal p (commands.Rehearse edition) ≡ Non
 TellsRefusal p edition (Ok (Refused why)) = refusal p (commands.Rehearse edition) ≡ Some why
 TellsRefusal p edition (Err fault) = ⊤
 
--- It commits nothing, leaves the connection reading as the package that it read as, and settled where it was, and answers what
--- publishing would be refused with, if anything.
-pub record IsRehearsal (profile : Profile) (edition : Text) (old new : State) (result : Result Outcome Fault) : Type 0 where
-  pub survives : CommitsNothing old new
-  pub seen : HasCleanDisk new → (p : Package) → Meets profile p → IsSeenAs profile old p → IsSeenAs profile new p
-  pub settled : HasCleanDisk new → (p : Package) → Meets profile p → IsSettled profile old p → IsSettled profile new p
-  pub answers : HasCleanDisk new → (p : Package) → Meets profile p → IsSeenAs profile old p → TellsRefusal p edition result
-  pub faults : IfErr result IsStoreFault
+-- It commits nothing, leaves the connection reading as the package that it read as, and settled where it was, and
+-- answers what publishing would be refused with, if anything.
+pub record IsRehearsal (profile : Profile) (edition : Text) (old new : State) (result : Result Outcome Fault) : Type 0
+  where
+    pub survives : CommitsNothing old new
+    pub seen : HasCleanDisk new → (p : Package) → Meets profile p → IsSeenAs profile old p → IsSeenAs profile new p
+    pub settled : HasCleanDisk new → (p : Package) → Meets profile p → IsSettled profile old p → IsSettled profile new p
+    pub answers : HasCleanDisk new → (p : Package) → Meets profile p → IsSeenAs profile old p
+        → TellsRefusal p edition result
+    pub faults : IfErr result IsStoreFault

@@ -32,7 +32,8 @@ use Rattle.mm_edition.specs.declared.running.Turn.TheVariants.{Done, End, Refuse
 
 -- the edition's piece of the number is this one, with these bytes
 abbrev pub HoldsPiece : Text → ℕ → Outline → List ℕ → Package → Type 0
-HoldsPiece edition number outline bytes p = get p.pieces (piece edition (pos number)) ≡ Some (piece_row (with_bytes bytes outline))
+HoldsPiece edition number outline bytes p = get p.pieces (piece edition (pos number))
+    ≡ Some (piece_row (with_bytes bytes outline))
 
 -- the package after a piece, if there is one, with this text as last_change
 abbrev pub piece_given : Package → Text → Option Piece → Package
@@ -56,9 +57,11 @@ TellsPieceTurn edition number p Done =
     (q : Piece) × (get p.pieces (piece edition (pos number)) ≡ Some (piece_row q)) × (least (piece_reasons p q) ≡ None)
 TellsPieceTurn edition number p End = get p.pieces (piece edition (pos number)) ≡ None
 TellsPieceTurn edition number p (Refused why) =
-    (q : Piece) × (get p.pieces (piece edition (pos number)) ≡ Some (piece_row q)) × (least (piece_reasons p q) ≡ Some why)
+    (q : Piece) × (get p.pieces (piece edition (pos number)) ≡ Some (piece_row q))
+    × (least (piece_reasons p q) ≡ Some why)
 
--- ---- all pieces, and what publishing comes to. Of the transaction after a refusal, which is rolled back, nothing is said.
+-- ---- all pieces, and what publishing comes to. Of the transaction after a refusal, which is rolled back, nothing is
+-- said.
 
 -- what is known of a package, and what is said of an answer
 abbrev pub Known : Type 1
@@ -73,12 +76,14 @@ IsStamped at profile p = Meets profile p × (moment : ℕ) × IsStamp moment at
 
 -- the same where the edition is open
 abbrev pub IsOpened : Text → Text → Known
-IsOpened edition at profile p = Meets profile p × (get p.editions edition ≡ Some open_state) × (moment : ℕ) × IsStamp moment at
+IsOpened edition at profile p = Meets profile p × (get p.editions edition ≡ Some open_state) × (moment : ℕ)
+    × IsStamp moment at
 
 -- all pieces were done in turn, and the transaction stands for what they gave; or the first that is refused is told
 abbrev pub TellsTrial : Text → Text → Profile → State → Ground → Package → Option (ℕ × ℕ) → Type 0
 TellsTrial edition at profile new ground p None =
-    (q : Package) × (edition_trial p edition at ≡ Ok q) × (q.editions ≡ p.editions) × IsTrue new.is_open × StandsInside profile new ground q
+    (q : Package) × (edition_trial p edition at ≡ Ok q) × (q.editions ≡ p.editions) × IsTrue new.is_open
+    × StandsInside profile new ground q
 TellsTrial edition at profile new ground p (Some refused) = edition_trial p edition at ≡ Err refused
 
 -- done only where it is not refused, and then the transaction stands for the package after it; or refused so
@@ -95,9 +100,11 @@ module _ {S : Type 0} (g : Ghosts S) (old new : Transaction S) where
   pub record Attempts {T : Type 0} (When : Known) (Says : Said T) (result : Result T Fault) : Type 0 where
     pub same : IsSame old new
     pub survives : CommitsNothing (state g old.conn.now) (state g new.conn.now)
-    pub on : HasCleanDisk (state g new.conn.now) → (profile : Profile) (ground : Ground) (p : Package) → StandsInside profile (state g old.conn.now) ground p
+    pub on : HasCleanDisk (state g new.conn.now) → (profile : Profile) (ground : Ground) (p : Package)
+        → StandsInside profile (state g old.conn.now) ground p
         → When profile p → StandsOn (state g new.conn.now) ground
-    pub tells : HasCleanDisk (state g new.conn.now) → (profile : Profile) (ground : Ground) (p : Package) → StandsInside profile (state g old.conn.now) ground p
+    pub tells : HasCleanDisk (state g new.conn.now) → (profile : Profile) (ground : Ground) (p : Package)
+        → StandsInside profile (state g old.conn.now) ground p
         → When profile p → IfOk result (Says profile (state g new.conn.now) ground p)
     pub faults : IfErr result IsStoreFault
 

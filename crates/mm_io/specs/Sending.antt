@@ -10,7 +10,8 @@ use Rattle.mm_definitions.specs.declared.streams.Io.{Io}
 abbrev pub Sends : Written → Written → List ℕ → Sent → Type 0
 Sends old new bytes sent.Flushed = Appends old.contents new.contents bytes × (new.failed ≡ old.failed)
 Sends old new bytes sent.Unflushed = Appends old.contents new.contents bytes × (new.failed ≡ true)
-Sends old new bytes sent.Cut = (new.failed ≡ true) × (taken : ℕ) × (taken < length bytes) × Appends old.contents new.contents (take taken bytes)
+Sends old new bytes sent.Cut = (new.failed ≡ true) × (taken : ℕ) × (taken < length bytes)
+    × Appends old.contents new.contents (take taken bytes)
 
 -- all that was written through it is flushed, or a call of it has failed
 abbrev pub IsOut : {T : Type 0} → Io T → Type 0

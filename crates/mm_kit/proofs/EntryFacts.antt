@@ -1,6 +1,7 @@
 -- The entry of a record, and the least number that is against it.
 use Rattle.mm_definitions.specs.Bounds.{current}
-use Rattle.std.proofs.Common.{◌≡◌, ◌∙◌, ◌⊎◌, inl, inr, ◌<◌, ◌≤◌, ℕ, ℤ, pos, ◌≤ℤ◌, List, ◌∷◌, length, Option, Result, Ok, Err, Bool, true, false, refl, sym, ap, subst, arith}
+use Rattle.std.proofs.Common.{◌≡◌, ◌∙◌, ◌⊎◌, inl, inr, ◌<◌, ◌≤◌, ℕ, ℤ, pos, ◌≤ℤ◌, List, ◌∷◌, length, Option, Result, Ok}
+use Rattle.std.proofs.Common.{Err, Bool, true, false, refl, sym, ap, subst, arith}
 use Rattle.std.specs.Borrow.{Bor}
 use Rattle.mm_definitions.specs.Fields.{IsAgainst, Whole}
 use Rattle.mm_definitions.specs.Keys.{Text}
@@ -36,7 +37,8 @@ module _ (place : ℕ) (word : Text) (r : Record) where
   Held = HoldsAgainstEntry place (word ∷ r)
 
   -- a number that is low enough and below those against the number and the piece is below all
-  below_all : (n : ℕ) → n ≤ 54 → ((m : ℕ) → IsAgainst id_field word m → n ≤ m) → ((m : ℕ) → HoldsAgainstPiece current (without_file r) m → n ≤ m)
+  below_all : (n : ℕ) → n ≤ 54 → ((m : ℕ) → IsAgainst id_field word m → n ≤ m)
+      → ((m : ℕ) → HoldsAgainstPiece current (without_file r) m → n ≤ m)
       → (m : ℕ) → Held m → n ≤ m
   below_all n low one two m (inl h) = one m h
   below_all n low one two m (inr (inl h)) = two m h
@@ -47,16 +49,21 @@ module _ (place : ℕ) (word : Text) (r : Record) where
   same_or_less : (a n m : ℕ) → n ≤ a → m ≡ a → n ≤ m
   same_or_less a n m h e = omega (arith, h, e)
 
-  pub number_first : (a b : ℕ) → IsAgainst id_field word a → IsLeast (HoldsAgainstPiece current (without_file r)) b → a ≤ b → IsLeast Held a
+  pub number_first : (a b : ℕ) → IsAgainst id_field word a → IsLeast (HoldsAgainstPiece current (without_file r)) b
+      → a ≤ b → IsLeast Held a
   number_first a b h l le = record {
     is_held = inl h;
-    is_least = below_all a (omega (arith, low_number word a h)) (λ m k. same_or_less a a m (omega arith) (one_against id_field word m a k h)) (λ m k. omega (arith, le, l.is_least m k));
+    is_least = below_all a (omega (arith, low_number word a h))
+        (λ m k. same_or_less a a m (omega arith) (one_against id_field word m a k h))
+        (λ m k. omega (arith, le, l.is_least m k));
   }
 
-  pub piece_first : (a b : ℕ) → IsAgainst id_field word a → IsLeast (HoldsAgainstPiece current (without_file r)) b → b ≤ a → IsLeast Held b
+  pub piece_first : (a b : ℕ) → IsAgainst id_field word a → IsLeast (HoldsAgainstPiece current (without_file r)) b
+      → b ≤ a → IsLeast Held b
   piece_first a b h l le = record {
     is_held = inr (inl l.is_held);
-    is_least = below_all b (omega (arith, low_piece (without_file r) b l.is_held)) (λ m k. same_or_less a b m le (one_against id_field word m a k h)) l.is_least;
+    is_least = below_all b (omega (arith, low_piece (without_file r) b l.is_held))
+        (λ m k. same_or_less a b m le (one_against id_field word m a k h)) l.is_least;
   }
 
   module _ (z : ℤ) (spells : SpellsNumber word z) (low : pos 1 ≤ℤ z) (high : z ≤ℤ pos 9007199254740992) where
@@ -64,13 +71,18 @@ module _ (place : ℕ) (word : Text) (r : Record) where
     number_free m h = not_against id_field word (Whole z) m (spells, (low, high)) h
 
     pub piece_alone : (b : ℕ) → IsLeast (HoldsAgainstPiece current (without_file r)) b → IsLeast Held b
-    piece_alone b l = record { is_held = inr (inl l.is_held); is_least = below_all b (omega (arith, low_piece (without_file r) b l.is_held)) (λ m k. absurd (number_free m k)) l.is_least }
+    piece_alone b l = record {
+      is_held = inr (inl l.is_held);
+      is_least = below_all b
+          (omega (arith, low_piece (without_file r) b l.is_held)) (λ m k. absurd (number_free m k)) l.is_least;
+    }
 
     module _ (q : Piece) (is : SpellsPiece current (without_file r) q) where
       pub placed_least : (n : ℕ) → IsLeftToAsk place z (file_of r) (Err n) → IsLeast Held n
       placed_least n (inl h) = record {
         is_held = inr (inr (inl h));
-        is_least = below_all n (omega (arith, h.0)) (λ m k. absurd (number_free m k)) (λ m k. absurd (none_against_piece current (without_file r) q m is k));
+        is_least = below_all n (omega (arith, h.0)) (λ m k. absurd (number_free m k))
+            (λ m k. absurd (none_against_piece current (without_file r) q m is k));
       }
       placed_least n (inr (inl h)) = record {
         is_held = inr (inr (inr (inl (h.0, λ s. h.2 (spells_one word z (pos place) spells s)))));
@@ -95,13 +107,17 @@ module _ (place : ℕ) (word : Text) (r : Record) where
           least m (inr (inr (inr (inl k)))) = absurd (k.1 (subst (SpellsNumber word) h.2 spells))
           least m (inr (inr (inr (inr k)))) = omega (arith, h.0, k.0)
 
-      pub placed_entry : (file : Option Text) → IsLeftToAsk place z (file_of r) (Ok file) → IsEntry place (word ∷ r) (entry_of q file)
+      pub placed_entry : (file : Option Text) → IsLeftToAsk place z (file_of r) (Ok file)
+          → IsEntry place (word ∷ r) (entry_of q file)
       placed_entry file h = (subst (SpellsNumber word) h.1 spells, h.0, h.3, q, is, ap (entry_of q) h.2)
 
-  pub number_alone : (a : ℕ) (q : Piece) → IsAgainst id_field word a → SpellsPiece current (without_file r) q → IsLeast Held a
+  pub number_alone : (a : ℕ) (q : Piece) → IsAgainst id_field word a → SpellsPiece current (without_file r) q
+      → IsLeast Held a
   number_alone a q h is = record {
     is_held = inl h;
-    is_least = below_all a (omega (arith, low_number word a h)) (λ m k. same_or_less a a m (omega arith) (one_against id_field word m a k h)) (λ m k. absurd (none_against_piece current (without_file r) q m is k));
+    is_least = below_all a (omega (arith, low_number word a h))
+        (λ m k. same_or_less a a m (omega arith) (one_against id_field word m a k h))
+        (λ m k. absurd (none_against_piece current (without_file r) q m is k));
   }
 
   -- whose number is refused
@@ -113,7 +129,8 @@ module _ (place : ℕ) (word : Text) (r : Record) where
   number_refused n (Err (faults.Refused why)) h reads = by (nat_lt why.number n) refl
     where
       by : (b : Bool) → nat_lt why.number n ≡ b
-          → ReadsTo {A = KitEntry} (IsEntry place (word ∷ r)) (IsLeast Held) (Err (if b then faults.Refused why else refused n))
+          → ReadsTo {A = KitEntry} (IsEntry place (word ∷ r)) (IsLeast Held)
+          (Err (if b then faults.Refused why else refused n))
       by true e = (reads.0, piece_first n why.number h reads.1 (lower (ltb-true why.number n e)))
         where
           lower : {a b : ℕ} → a < b → a ≤ b
@@ -123,14 +140,18 @@ module _ (place : ℕ) (word : Text) (r : Record) where
   -- whose number is read
   module _ (z : ℤ) (spells : SpellsNumber word z) (low : pos 1 ≤ℤ z) (high : z ≤ℤ pos 9007199254740992) where
     pub piece_refused : (fault : ReadFault)
-        → ReadsTo (SpellsPiece current (without_file r)) (IsLeast (HoldsAgainstPiece current (without_file r))) (Err fault)
+        → ReadsTo (SpellsPiece current (without_file r)) (IsLeast (HoldsAgainstPiece current (without_file r)))
+        (Err fault)
         → ReadsTo {A = KitEntry} (IsEntry place (word ∷ r)) (IsLeast Held) (Err fault)
     piece_refused faults.Memory reads = tt
     piece_refused (faults.Refused why) reads = (reads.0, piece_alone z spells low high why.number reads.1)
 
 -- the fields behind the first are the record of the piece
-pub entry_whole : (place : ℕ) (xs items : List (Bor Text)) (r : Result KitEntry ReadFault) → 1 ≤ length xs → items ≡ rest_of xs
-    → ReadsTo (IsEntry place (text_at xs 0 ∷ texts_of items)) (IsLeast (HoldsAgainstEntry place (text_at xs 0 ∷ texts_of items))) r
+pub entry_whole : (place : ℕ) (xs items : List (Bor Text)) (r : Result KitEntry ReadFault) → 1 ≤ length xs
+    → items ≡ rest_of xs
+    → ReadsTo (IsEntry place (text_at xs 0 ∷ texts_of items))
+    (IsLeast (HoldsAgainstEntry place (text_at xs 0 ∷ texts_of items))) r
     → ReadsTo (IsEntry place (texts_of xs)) (IsLeast (HoldsAgainstEntry place (texts_of xs))) r
 entry_whole place xs items r some is h =
-    subst (λ ts. ReadsTo (IsEntry place ts) (IsLeast (HoldsAgainstEntry place ts)) r) (ap (λ l. text_at xs 0 ∷ texts_of l) is ∙ sym (first_and_rest xs some)) h
+    subst (λ ts. ReadsTo (IsEntry place ts) (IsLeast (HoldsAgainstEntry place ts)) r)
+    (ap (λ l. text_at xs 0 ∷ texts_of l) is ∙ sym (first_and_rest xs some)) h

@@ -1,5 +1,6 @@
 -- What an import tells of its folder.
-use Rattle.std.proofs.Common.{◌≡◌, ◌≢◌, ◌∙◌, ◌⊎◌, inl, inr, ℕ, Bool, true, false, Option, Some, None, Result, Ok, Err, IfOk, IfErr, IfSome, refl, sym, ap, arith}
+use Rattle.std.proofs.Common.{◌≡◌, ◌≢◌, ◌∙◌, ◌⊎◌, inl, inr, ℕ, Bool, true, false, Option, Some, None, Result, Ok, Err}
+use Rattle.std.proofs.Common.{IfOk, IfErr, IfSome, refl, sym, ap, arith}
 use Rattle.std.specs.Prelude.{◌==◌, ◌||◌}
 use Rattle.std.proofs.lemmas.Bool.{ne_eqb}
 use Rattle.mm_run.specs.Applied.{IsApplyFault}
@@ -17,7 +18,8 @@ as_before true = refl
 as_before false = refl
 
 -- a fault of the folder is told by its number
-pub told : (before failed : Bool) (fault : FolderFault) (n : ℕ) → n ≡ fault_number fault → failed ≡ (before || is_own fault) → failed ≡ (before || (n == 96))
+pub told : (before failed : Bool) (fault : FolderFault) (n : ℕ) → n ≡ fault_number fault
+    → failed ≡ (before || is_own fault) → failed ≡ (before || (n == 96))
 told before failed Memory n is fails = rw is fails
 told before failed Failed n is fails = rw is fails
 
@@ -54,10 +56,12 @@ pub works : {T : Type 0} {W : Type 0} (failed : Bool) (found : T)
 works true found ended = absurd (let e = (ended refl).0 in cc)
 works false found ended = refl
 
-pub asked-tells : (before failed : Bool) (same : Type 0) → before ≡ false → failed ≡ before → (failed ≡ before) × (before ≡ true → same)
+pub asked-tells : (before failed : Bool) (same : Type 0) → before ≡ false → failed ≡ before → (failed ≡ before)
+    × (before ≡ true → same)
 asked-tells before failed same is stays = (stays, λ was. absurd (let e : false ≡ true = sym is ∙ was in cc))
 
-pub staged-tells : (r : Result Staged KitFault) (before failed : Bool) (same : Type 0) → before ≡ false → IfOk r (λ a. failed ≡ false)
+pub staged-tells : (r : Result Staged KitFault) (before failed : Bool) (same : Type 0) → before ≡ false
+    → IfOk r (λ a. failed ≡ false)
     → IfErr r (λ e. (e.fault.0 ≢ 92) × (e.fault.0 ≡ 96 → failed ≡ false))
     → ImportTellsReopening before failed same r
 staged-tells (Ok a) before failed same is working fault = asked-tells before failed same is (working ∙ sym is)
@@ -66,21 +70,31 @@ staged-tells (Err e) before failed same is working fault =
 
 -- a fault of telling how an edition stands: 92 where the editor has failed, and else 90 or 91
 module _ {T : Type 0} (fault : Fault) (same : Type 0) where
-  pub asked_fault : (before : Bool) → (before ≡ true → ◌≡◌ {A = Result T Fault} (Err fault) (Err (record { 0 = 92 })) × same)
+  pub asked_fault : (before : Bool)
+      → (before ≡ true → ◌≡◌ {A = Result T Fault} (Err fault) (Err (record { 0 = 92 })) × same)
       → (before ≡ false → (fault.0 ≡ 90) ⊎ (fault.0 ≡ 91)) → IsApplyFault fault.0
-  asked_fault true ended faults = let number : fault ≡ record { 0 = 92 } = cc ((ended refl).0) in inr (inr (ap (λ (x : Fault). x.0) number))
+  asked_fault true ended faults = let number : fault ≡ record { 0 = 92 } = cc ((ended refl).0) in inr
+      (inr (ap (λ (x : Fault). x.0) number))
   asked_fault false ended faults = elim (faults refl) [ inl e ↦ inl e | inr e ↦ inr (inl e) ]
 
-  pub asked-ended : (before : Bool) → (before ≡ true → ◌≡◌ {A = Result T Fault} (Err fault) (Err (record { 0 = 92 })) × same) → before ≡ true
-      → ◌≡◌ {A = Result Staged KitFault} (Err (record { fault = fault; staged = 0 })) (Err (record { fault = record { 0 = 92 }; staged = 0 }))
-  asked-ended before ended was = let number : fault ≡ record { 0 = 92 } = cc ((ended was).0) in ap (λ (f : Fault). Err (record { fault = f; staged = 0 })) number
+  pub asked-ended : (before : Bool)
+      → (before ≡ true → ◌≡◌ {A = Result T Fault} (Err fault) (Err (record { 0 = 92 })) × same) → before ≡ true
+      → ◌≡◌ {A = Result Staged KitFault} (Err (record { fault = fault; staged = 0 }))
+      (Err (record { fault = record { 0 = 92 }; staged = 0 }))
+  asked-ended before ended was = let number : fault ≡ record { 0 = 92 } = cc ((ended was).0) in ap
+      (λ (f : Fault). Err (record { fault = f; staged = 0 })) number
 
-  pub fails-tells : (before failed : Bool) → (before ≡ true → ◌≡◌ {A = Result T Fault} (Err fault) (Err (record { 0 = 92 })) × same)
+  pub fails-tells : (before failed : Bool)
+      → (before ≡ true → ◌≡◌ {A = Result T Fault} (Err fault) (Err (record { 0 = 92 })) × same)
       → (before ≡ false → (fault.0 ≡ 90) ⊎ (fault.0 ≡ 91))
       → failed ≡ before → ImportTellsReopening before failed same (Err (record { fault = fault; staged = 0 }))
   fails-tells true failed ended faults stays = (λ q. refl, λ q. stays, λ was. ((ended refl).1, refl))
-  fails-tells false failed ended faults stays =
-      (λ q. absurd (elim (faults refl) [ inl e ↦ omega arith | inr e ↦ omega arith ]), λ q. stays, λ was. absurd (let e : false ≡ true = was in cc))
+  fails-tells false failed ended faults stays = (
+    λ q. absurd (elim (faults refl) [ inl e ↦ omega arith | inr e ↦ omega arith ]),
+    λ q. stays,
+    λ was. absurd
+        (let e : false ≡ true = was in cc),
+  )
 
 -- a fault of the folder before anything is asked
 pub folder-tells : (fault : FolderFault) (f : Fault) → f.0 ≡ fault_number fault → (failed : Bool) (same : Type 0) → same
@@ -93,7 +107,8 @@ pub never_so : {R : Type 0} (failed : Bool) → failed ≡ false → failed ≡ 
 never_so failed is was = absurd (let e : false ≡ true = sym is ∙ was in cc)
 
 -- what the folder tells
-pub where_told : (told : Option Files) (P : Files → Type 0) → ((files : Files) → told ≡ Some files → P files) → IfSome told P
+pub where_told : (told : Option Files) (P : Files → Type 0) → ((files : Files) → told ≡ Some files → P files)
+    → IfSome told P
 where_told None P h = tt
 where_told (Some files) P h = h files refl
 

@@ -1,5 +1,6 @@
 -- From the import of a list's entries to that of a folder.
-use Rattle.std.proofs.Common.{◌≡◌, ◌∙◌, ◌⊎◌, inl, inr, ℕ, ◌≤◌, ◌<◌, ◌+◌, List, length, Option, Some, None, Result, Ok, Err, refl, sym, ap, arith}
+use Rattle.std.proofs.Common.{◌≡◌, ◌∙◌, ◌⊎◌, inl, inr, ℕ, ◌≤◌, ◌<◌, ◌+◌, List, length, Option, Some, None, Result, Ok}
+use Rattle.std.proofs.Common.{Err, refl, sym, ap, arith}
 use Rattle.std.proofs.Math.Nat.{max-eq_left}
 use Rattle.std.specs.FinMap.{get}
 use Rattle.mm_definitions.specs.Bounds.{current}
@@ -15,7 +16,8 @@ use Rattle.mm_definitions.specs.Standing.{TellsState}
 use Rattle.mm_run.specs.Applied.{IsSound}
 use Rattle.mm_kit.specs.Editions.{Edition, Open, Published, IsEdition, HasPieces}
 use Rattle.mm_kit.specs.Folders.{Files}
-use Rattle.mm_kit.specs.Imports.{IsImportAnswered, AreImported, AreStaged, AreStagedOn, HasCounted, ImportWorksOn, GrowsAlong, IsCounted, OnlyGrows, MayBeStaged, IsImportStopped}
+use Rattle.mm_kit.specs.Imports.{IsImportAnswered, AreImported, AreStaged, AreStagedOn, HasCounted, ImportWorksOn}
+use Rattle.mm_kit.specs.Imports.{GrowsAlong, IsCounted, OnlyGrows, MayBeStaged, IsImportStopped}
 use Rattle.mm_kit.specs.Kits.{edition_answer, kit_of}
 use Rattle.mm_kit.specs.Lists.{IsKitList}
 use Rattle.mm_kit.specs.declared.entries.KitEntry.{KitEntry}
@@ -63,7 +65,8 @@ module _ (files : Files) (name : Text) (p : Package) where
   }
 
   -- a list that is refused
-  pub no_kit : (place number : ℕ) (settled : Package → Type 0) → IsKitList files (Err (place, number)) → IsSound settled p
+  pub no_kit : (place number : ℕ) (settled : Package → Type 0) → IsKitList files (Err (place, number))
+      → IsSound settled p
       → IsImportAnswered files name p settled (Refused place number)
   no_kit place number settled read sound =
       let it = some_edition p name sound.1 in
@@ -79,11 +82,13 @@ module _ (files : Files) (name : Text) (p : Package) where
         has = tt;
       }
 
-  along : (list : Result (List KitEntry) (ℕ × ℕ)) → IsKitList files list → (q : Package) → OnlyGrows name (kit_of files list) p q → GrowsAlong files name p q
+  along : (list : Result (List KitEntry) (ℕ × ℕ)) → IsKitList files list → (q : Package)
+      → OnlyGrows name (kit_of files list) p q → GrowsAlong files name p q
   along list read q (inl same) = inl same
   along list read q (inr grown) = inr (list, read, grown)
 
-  pub stopped_some : {D : Type 0} (entries : List KitEntry) (may_leave : D → Type 0) (stands_for : D → Package → Type 0) (s : ℕ)
+  pub stopped_some : {D : Type 0} (entries : List KitEntry) (may_leave : D → Type 0) (stands_for : D → Package → Type 0)
+      (s : ℕ)
       → IsKitList files (Ok entries) → MayBeStaged files name entries p may_leave stands_for s
       → IsImportStopped files name p may_leave stands_for s
   stopped_some entries may_leave stands_for s read left db may =
@@ -98,7 +103,8 @@ module _ (files : Files) (name : Text) (p : Package) where
       → ((db : D) → may_leave db → stands_for db p) → IsImportStopped files name p may_leave stands_for 0
   stopped_at_once may_leave stands_for meets left db may = (p, left db may, meets, inl refl, as_it_was name p)
 
-  pub staged_at_once : {D : Type 0} (entries : List KitEntry) (may_leave : D → Type 0) (stands_for : D → Package → Type 0) → Meets current p
+  pub staged_at_once : {D : Type 0} (entries : List KitEntry) (may_leave : D → Type 0)
+      (stands_for : D → Package → Type 0) → Meets current p
       → ((db : D) → may_leave db → stands_for db p) → MayBeStaged files name entries p may_leave stands_for 0
   staged_at_once entries may_leave stands_for meets left db may = (p, left db may, meets, inl refl, as_it_was name p)
 
@@ -107,19 +113,33 @@ module _ (files : Files) (name : Text) (p : Package) where
     at_once : (place number : ℕ) (edition : Option Edition) → IsEdition p name edition → IsSound settled p
         → Refused place number ≡ edition_answer files entries edition → ((number ≡ 57) ⊎ (number ≡ 11) → ⊥)
         → AreImported files name entries p settled (Refused place number)
-    at_once place number edition stands sound is other = record { edition = edition; stands = stands; answer_is = is; next = p; sound = sound; grows = inl refl; has = λ why. absurd (other why) }
+    at_once place number edition stands sound is other =
+        record {
+          edition = edition;
+          stands = stands;
+          answer_is = is;
+          next = p;
+          sound = sound;
+          grows = inl refl;
+          has = λ why. absurd (other why);
+        }
 
-    pub imported_none : get p.editions name ≡ None → IsSound settled p → AreImported files name entries p settled (Refused 0 51)
+    pub imported_none : get p.editions name ≡ None → IsSound settled p
+        → AreImported files name entries p settled (Refused 0 51)
     imported_none is sound = at_once 0 51 None is sound refl (no_file 51 (omega arith) (omega arith))
 
-    pub imported_published : get p.editions name ≡ Some published_state → IsSound settled p → AreImported files name entries p settled (Refused 0 55)
+    pub imported_published : get p.editions name ≡ Some published_state → IsSound settled p
+        → AreImported files name entries p settled (Refused 0 55)
     imported_published is sound = at_once 0 55 (Some Published) is sound refl (no_file 55 (omega arith) (omega arith))
 
-    pub imported_longer : (count : ℕ) → TellsState p name (Some (states.Open count)) → length entries < count → IsSound settled p
+    pub imported_longer : (count : ℕ) → TellsState p name (Some (states.Open count)) → length entries < count
+        → IsSound settled p
         → AreImported files name entries p settled (Refused (length entries + 1) 52)
     imported_longer count tells less sound =
         let (old, has, size) = open_has p name count sound.1 tells.0 tells.1 in
-        at_once (length entries + 1) 52 (Some (Open old)) has sound (rw (lt-ltb (length entries) (length old) (omega (arith, less, size))) refl) (no_file 52 (omega arith) (omega arith))
+        at_once (length entries + 1) 52 (Some (Open old)) has sound
+        (rw (lt-ltb (length entries) (length old) (omega (arith, less, size))) refl)
+        (no_file 52 (omega arith) (omega arith))
 
     pub imported_open : (old : List Piece) → HasPieces p name old → length old ≤ length entries → (a : Staged)
         → AreStaged files name entries p old settled a → AreImported files name entries p settled a

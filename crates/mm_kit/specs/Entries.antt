@@ -1,8 +1,10 @@
--- A record of a kit's list: its number, and the record of a piece, in which the last field of a tile or a media item is the
--- name of the file that holds the bytes.
+-- A record of a kit's list: its number, and the record of a piece, in which the last field of a tile or a media item is
+-- the name of the file that holds the bytes.
 use Rattle.mm_definitions.specs.declared.refusals.TheConstants.{NO_SUCH_RECORD, TOO_MANY_PIECES, NOT_THE_PLACE, NO_FILE}
 use Rattle.mm_definitions.specs.Bounds.{current, MostPieces}
-use Rattle.std.specs.Prelude.{◌≡◌, ◌≢◌, ◌⊎◌, ◌≤◌, ◌<◌, ◌-◌, ℕ, ℤ, pos, Bool, false, ◌||◌, length, take, get_or, if◌then◌else◌, [], ◌∷◌, ◌++◌, Option, Some, None, Result, Ok, Err, codes, bytes_eq, nat_lt, ⊤}
+use Rattle.std.specs.Prelude.{◌≡◌, ◌≢◌, ◌⊎◌, ◌≤◌, ◌<◌, ◌-◌, ℕ, ℤ, pos, Bool, false, ◌||◌, length, take, get_or}
+use Rattle.std.specs.Prelude.{if◌then◌else◌, [], ◌∷◌, ◌++◌, Option, Some, None, Result, Ok, Err, codes, bytes_eq}
+use Rattle.std.specs.Prelude.{nat_lt, ⊤}
 use Rattle.std.specs.Borrow.{Bor}
 use Rattle.csv.specs.Records.{AllText}
 use Rattle.mm_definitions.specs.Fields.{IsAgainst}
@@ -49,8 +51,8 @@ IsEntry place [] e = ⊥
 IsEntry place (number ∷ r) e = SpellsNumber number (pos place) × (place ≤ MostPieces) × IsInForm (file_of r)
     × (q : Piece) × SpellsPiece current (without_file r) q × (e ≡ entry_of q (file_of r))
 
--- The numbers against the record at this place: 10 to 12 as against every record of a piece, 54 where there are too many
--- records, 56 where its number isn't its place, 57 where the file's name is out of form.
+-- The numbers against the record at this place: 10 to 12 as against every record of a piece, 54 where there are too
+-- many records, 56 where its number isn't its place, 57 where the file's name is out of form.
 abbrev pub HoldsAgainstEntry : ℕ → Record → ℕ → Type 0
 HoldsAgainstEntry place [] n = n ≡ NO_SUCH_RECORD
 HoldsAgainstEntry place (number ∷ r) n =
@@ -61,7 +63,8 @@ HoldsAgainstEntry place (number ∷ r) n =
 -- The entry, or the least number that is against the record. One with a field that isn't text is refused 10.
 abbrev pub IsEntryReadAs : ℕ → Record → Result KitEntry ℕ → Type 0
 IsEntryReadAs place r (Ok e) = AllText r × IsEntry place r e
-IsEntryReadAs place r (Err n) = (AllText r × IsLeast (HoldsAgainstEntry place r) n) ⊎ (¬ (AllText r) × (n ≡ NO_SUCH_RECORD))
+IsEntryReadAs place r (Err n) = (AllText r × IsLeast (HoldsAgainstEntry place r) n)
+    ⊎ (¬ (AllText r) × (n ≡ NO_SUCH_RECORD))
 
 -- ---- inside the reader
 -- a field that may be missing, as its text

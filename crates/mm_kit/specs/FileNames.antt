@@ -9,7 +9,8 @@ MostFileNameBytes = 100
 
 -- a letter, a digit, `_` or `-`
 abbrev pub is_first : ℕ → Bool
-is_first c = (nat_le 48 c && nat_le c 57) || (nat_le 65 c && nat_le c 90) || (nat_le 97 c && nat_le c 122) || (c == 95) || (c == 45)
+is_first c = (nat_le 48 c && nat_le c 57) || (nat_le 65 c && nat_le c 90) || (nat_le 97 c && nat_le c 122) || (c == 95)
+    || (c == 45)
 
 -- one of these, or a dot
 abbrev pub is_further : ℕ → Bool

@@ -1,6 +1,8 @@
 -- A kit: the pieces of a list and a folder, and the answer to its import.
-use Rattle.std.specs.Prelude.{◌≡◌, ◌+◌, ℕ, nat_le, nat_lt, ◌&&◌, length, if◌then◌else◌, List, [], ◌∷◌, Option, Some, None, Result, Ok, Err}
-use Rattle.mm_definitions.specs.declared.refusals.TheConstants.{OUT_OF_LIMITS, NO_EDITION, NOT_THE_NEXT_PIECE, PUBLISHED_ALREADY, NO_FILE}
+use Rattle.std.specs.Prelude.{◌≡◌, ◌+◌, ℕ, nat_le, nat_lt, ◌&&◌, length, if◌then◌else◌, List, [], ◌∷◌, Option, Some}
+use Rattle.std.specs.Prelude.{None, Result, Ok, Err}
+use Rattle.mm_definitions.specs.declared.refusals.TheConstants.{OUT_OF_LIMITS, NO_EDITION, NOT_THE_NEXT_PIECE}
+use Rattle.mm_definitions.specs.declared.refusals.TheConstants.{PUBLISHED_ALREADY, NO_FILE}
 use Rattle.mm_definitions.specs.Bounds.{MostTileBytes, MostMediaBytes}
 use Rattle.mm_definitions.specs.Pieces.{piece_row, same_piece}
 use Rattle.mm_definitions.specs.declared.commands.Piece.{Piece}
@@ -17,7 +19,8 @@ use Rattle.mm_kit.specs.declared.entries.KitEntry.TheVariants.{Ready, Tile, Medi
 -- the piece of a file's bytes: 57 where there is no such file, 11 where it has none or too many
 abbrev pub with_file : ℕ → (List ℕ → Piece) → Option (List ℕ) → Result Piece ℕ
 with_file most make None = Err NO_FILE
-with_file most make (Some bytes) = if nat_le 1 (length bytes) && nat_le (length bytes) most then Ok (make bytes) else Err OUT_OF_LIMITS
+with_file most make (Some bytes) = if nat_le 1 (length bytes) && nat_le (length bytes) most then Ok (make bytes)
+    else Err OUT_OF_LIMITS
 
 -- the piece of an entry, with its file's bytes where it names one: no more than a tile or a medium has
 abbrev pub filled : Files → KitEntry → Result Piece ℕ
@@ -88,10 +91,12 @@ first_answer n (Some at) = Refused at.0 at.1
 abbrev pub edition_answer : Files → List KitEntry → Option Edition → Staged
 edition_answer files entries None = Refused 0 NO_EDITION
 edition_answer files entries (Some Published) = Refused 0 PUBLISHED_ALREADY
-edition_answer files entries (Some (Open old)) = if nat_lt (length entries) (length old) then Refused (length entries + 1) NOT_THE_NEXT_PIECE
+edition_answer files entries (Some (Open old)) = if nat_lt (length entries) (length old)
+    then Refused (length entries + 1) NOT_THE_NEXT_PIECE
     else first_answer (length entries) (first_number (against files old) 1 entries)
 
--- the answer for a list and an edition; a list that is refused is answered with its place and number, whatever the edition
+-- the answer for a list and an edition; a list that is refused is answered with its place and number, whatever the
+-- edition
 abbrev pub kit_answer : Files → Result (List KitEntry) (ℕ × ℕ) → Option Edition → Staged
 kit_answer files (Ok entries) edition = edition_answer files entries edition
 kit_answer files (Err at) edition = Refused at.0 at.1

@@ -1,5 +1,6 @@
 -- What the list of a kit says: its entries, or the first record that is refused.
-use Rattle.std.specs.Prelude.{◌≡◌, ◌⊎◌, ◌≤◌, ◌<◌, ◌+◌, ℕ, length, List, [], ◌∷◌, ◌++◌, Option, Some, None, Result, Ok, Err, codes, ⊤}
+use Rattle.std.specs.Prelude.{◌≡◌, ◌⊎◌, ◌≤◌, ◌<◌, ◌+◌, ℕ, length, List, [], ◌∷◌, ◌++◌, Option, Some, None, Result, Ok}
+use Rattle.std.specs.Prelude.{Err, codes, ⊤}
 use Rattle.csv.specs.Reading.{Reached, default_config}
 use Rattle.csv.specs.declared.parser.State.{State}
 use Rattle.csv.specs.declared.parser.State.TheVariants as states
@@ -73,7 +74,8 @@ AreSound (Entries entries) = AreFew entries.items
 AreSound (Refused place number) = ⊤
 
 -- the records so far are these entries, and the reader stands behind them
-pub record AreSoFar (bytes : List ℕ) (source : Option (List ℕ)) (s : State) (entries : List KitEntry) (place : ℕ) : Type 0 where
+pub record AreSoFar (bytes : List ℕ) (source : Option (List ℕ)) (s : State) (entries : List KitEntry) (place : ℕ) : Type
+    0 where
   pub rows : List Record
   pub rest : List ℕ
   pub here : source ≡ Some rest

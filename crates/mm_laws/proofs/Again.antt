@@ -65,19 +65,25 @@ spells r q = (λ e. spelled_only r (piece_by_kind r) q e, λ e. ap row_piece e �
 le_holds : (a b : ℤ) → a ≤ℤ b → int_le a b ≡ true
 le_holds a b h = grind (arith, ints)
 
-pub stage_again : (p : Package) (edition : Text) (number : ℤ) (q : Piece) (moment : ℕ) → refusal p (commands.Stage edition number q) ≡ None
+pub stage_again : (p : Package) (edition : Text) (number : ℤ) (q : Piece) (moment : ℕ)
+    → refusal p (commands.Stage edition number q) ≡ None
     → number ≤ℤ pos (piece_count p edition) → step p (commands.Stage edition number q) moment ≡ p
 stage_again p edition number q moment none low =
     let c = commands.Stage edition number q in
     let r = none_holds (reasons p c) (no_refusal (least (reasons p c)) (refused_piece (publishing p c [])) none) in
-    let opened : is_open p edition ≡ true = stands_where (contains_key p.editions edition) (is_open p edition) r.1.1.1.0 (not-false (contains_key p.editions edition) r.0) in
+    let opened : is_open p edition ≡ true = stands_where (contains_key p.editions edition) (is_open p edition) r.1.1.1.0
+    (not-false (contains_key p.editions edition) r.0) in
     let differs = (either_false (int_lt (pos (piece_count p edition + 1)) number)
     (int_le number (pos (piece_count p edition)) && not (has_equal_piece p edition number q))
     (and_false (is_open p edition) _ r.1.0 opened)).1 in
-    let equal : has_equal_piece p edition number q ≡ true = not-false _ (and_false (int_le number (pos (piece_count p edition))) _ differs (le_holds number (pos (piece_count p edition)) low)) in
+    let equal : has_equal_piece p edition number q ≡ true =
+    not-false _ (and_false (int_le number (pos (piece_count p edition))) _ differs
+    (le_holds number (pos (piece_count p edition)) low)) in
     let there = at_true (same_piece (piece_row q)) (get p.pieces (piece edition number)) equal in
     ap (λ v. unless_refused v (done p c (stamp moment)) p) none
-    ∙ ap (λ (m : PiecesPart). record p { pieces = m }) (put_again piece_keys p.pieces (piece edition number) (piece_row q) (there.1 ∙ ap Some (sym (same_row (piece_row q) there.0 there.2))))
+    ∙ ap (λ (m : PiecesPart). record p { pieces = m })
+    (put_again piece_keys p.pieces (piece edition number) (piece_row q)
+    (there.1 ∙ ap Some (sym (same_row (piece_row q) there.0 there.2))))
 
 pub same_reasons : (q : Piece) (p : Package) → own_reasons p (piece_command q) ≡ piece_reasons p q
 same_reasons (pieces.Tile table zoom column row bytes) p = refl

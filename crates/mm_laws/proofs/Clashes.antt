@@ -26,10 +26,12 @@ false_of : (a b : Bool) → (a ≡ true → b ≡ true) → (a && not b) ≡ fal
 false_of true b h = ap not (h refl)
 false_of false b h = refl
 
-pub clashes_unless_suits : (p : Package) (table : Text) (zoom : ℤ) (g : Grid) → SuitsAll p.matrices table zoom g (has_kind p.kinds table Two)
+pub clashes_unless_suits : (p : Package) (table : Text) (zoom : ℤ) (g : Grid)
+    → SuitsAll p.matrices table zoom g (has_kind p.kinds table Two)
     → clashes p table zoom g ≡ false
 clashes_unless_suits p table zoom g all =
-    no_such levels (λ k h. same_text k.table table && not (suits (has_kind p.kinds table Two) zoom g k.zoom h)) p.matrices
+    no_such levels (λ k h. same_text k.table table && not (suits (has_kind p.kinds table Two) zoom g k.zoom h))
+    p.matrices
     (λ k h e. false_of (same_text k.table table) (suits (has_kind p.kinds table Two) zoom g k.zoom h)
     (λ same. all k.zoom h (ap (λ t. get p.matrices (level t k.zoom)) (sym (are_same texts k.table table same)) ∙ e)))
 
@@ -38,8 +40,12 @@ pub clash_by_nearest : (p : Package) (table : Text) (zoom : ℤ) (g : Grid) (bel
     → IsNearestBelow p.matrices table zoom below → IsNearestAbove p.matrices table zoom above
     → (neighbours below zoom g above (has_kind p.kinds table Two) ≡ true) ↔ (clashes p table zoom g ≡ false)
 clash_by_nearest p table zoom g below above finer half new low high = (
-  λ t. clashes_unless_suits p table zoom g (suits_all p.matrices table zoom g (has_kind p.kinds table Two) finer below above low high t),
+  λ t. clashes_unless_suits p table zoom g
+      (suits_all p.matrices table zoom g (has_kind p.kinds table Two) finer below above low high t),
   λ none. let all = suits_unless_clashes p table zoom g none in
-      (nearest p.kinds p.matrices table zoom g below above finer half new low high).1
-      (still_finer p.matrices table zoom g (has_kind p.kinds table Two) all finer, still_halved p.kinds p.matrices table zoom g all half),
+      (nearest p.kinds p.matrices table zoom g below above finer half new low high).1 (
+        still_finer p.matrices table zoom g (has_kind p.kinds table Two) all finer,
+        still_halved p.kinds p.matrices table
+            zoom g all half,
+      ),
 )

@@ -58,7 +58,8 @@ utf8_or_not t = by (is_utf8 t) refl
 text_or_not : (least most : ℕ) (t : Text) → IsText least most t ⊎ ¬ (IsText least most t)
 text_or_not least most t = by (long_or_not least most t) (utf8_or_not t) (true_or_not _)
   where
-    by : IsLong least most t ⊎ ¬ (IsLong least most t) → IsUtf8 t ⊎ ¬ (IsUtf8 t) → IsTrue (not (has_zero t)) ⊎ ¬ (IsTrue (not (has_zero t)))
+    by : IsLong least most t ⊎ ¬ (IsLong least most t) → IsUtf8 t ⊎ ¬ (IsUtf8 t) → IsTrue (not (has_zero t))
+        ⊎ ¬ (IsTrue (not (has_zero t)))
         → IsText least most t ⊎ ¬ (IsText least most t)
     by (inl a) (inl b) (inl c) = inl (record { long = a; clean = record { utf8 = b; no_zero = c } })
     by (inl a) (inl b) (inr c) = inr (λ h. c h.clean.no_zero)
@@ -69,7 +70,8 @@ identifier_or_not : (t : Text) → IsIdentifier t ⊎ ¬ (IsIdentifier t)
 identifier_or_not t = by (utf8_or_not t) (long_or_not 1 1000 t) (true_or_not _)
   where
     by : IsUtf8 t ⊎ ¬ (IsUtf8 t) → IsLong 1 1000 t ⊎ ¬ (IsLong 1 1000 t)
-        → IsTrue (not (list_any is_control t)) ⊎ ¬ (IsTrue (not (list_any is_control t))) → IsIdentifier t ⊎ ¬ (IsIdentifier t)
+        → IsTrue (not (list_any is_control t)) ⊎ ¬ (IsTrue (not (list_any is_control t))) → IsIdentifier t
+        ⊎ ¬ (IsIdentifier t)
     by (inl a) (inl b) (inl c) = inl (record { utf8 = a; long = b; printable = c })
     by (inl a) (inl b) (inr c) = inr (λ h. c h.printable)
     by (inl a) (inr b) c = inr (λ h. b h.long)
@@ -79,7 +81,8 @@ word_or_not : (t : Text) → IsWord t ⊎ ¬ (IsWord t)
 word_or_not t = by (long_or_not 1 64 t) (true_or_not _)
   where
     by : IsLong 1 64 t ⊎ ¬ (IsLong 1 64 t)
-        → IsTrue (not (list_any (λ c. not (is_word_byte c)) t)) ⊎ ¬ (IsTrue (not (list_any (λ c. not (is_word_byte c)) t))) → IsWord t ⊎ ¬ (IsWord t)
+        → IsTrue (not (list_any (λ c. not (is_word_byte c)) t))
+        ⊎ ¬ (IsTrue (not (list_any (λ c. not (is_word_byte c)) t))) → IsWord t ⊎ ¬ (IsWord t)
     by (inl a) (inl b) = inl (record { long = a; all = b })
     by (inl a) (inr b) = inr (λ h. b h.all)
     by (inr a) b = inr (λ h. a h.long)
@@ -103,7 +106,8 @@ name_or_not : (t : Text) → IsName t ⊎ ¬ (IsName t)
 name_or_not t = by (long_or_not 1 60 t) (true_or_not _) (true_or_not _) (true_or_not _)
   where
     by : IsLong 1 60 t ⊎ ¬ (IsLong 1 60 t) → IsTrue (begins_with_letter t) ⊎ ¬ (IsTrue (begins_with_letter t))
-        → IsTrue (is_lettered t) ⊎ ¬ (IsTrue (is_lettered t)) → IsTrue (is_own t) ⊎ ¬ (IsTrue (is_own t)) → IsName t ⊎ ¬ (IsName t)
+        → IsTrue (is_lettered t) ⊎ ¬ (IsTrue (is_lettered t)) → IsTrue (is_own t) ⊎ ¬ (IsTrue (is_own t)) → IsName t
+        ⊎ ¬ (IsName t)
     by (inl a) (inl b) (inl c) (inl d) = inl (record { long = a; first = b; all = c; own = d })
     by (inl a) (inl b) (inl c) (inr d) = inr (λ h. d h.own)
     by (inl a) (inl b) (inr c) d = inr (λ h. c h.all)
@@ -115,7 +119,8 @@ choice_or_not : (words : List Text) (t : Text) → IsOneOf words t ⊎ ¬ (IsOne
 choice_or_not [] t = inr (λ h. h)
 choice_or_not (word ∷ words) t = by (bytes_eq t word) refl (choice_or_not words t)
   where
-    by : (v : Bool) → bytes_eq t word ≡ v → IsOneOf words t ⊎ ¬ (IsOneOf words t) → IsOneOf (word ∷ words) t ⊎ ¬ (IsOneOf (word ∷ words) t)
+    by : (v : Bool) → bytes_eq t word ≡ v → IsOneOf words t ⊎ ¬ (IsOneOf words t) → IsOneOf (word ∷ words) t
+        ⊎ ¬ (IsOneOf (word ∷ words) t)
     by true e h = inl (inl ((bytes_eq-Decides t word).0 e))
     by false e (inl h) = inl (inr h)
     by false e (inr h) = inr (none e h)
@@ -149,18 +154,21 @@ lead_or_not : (t : Text) → LeadDigits t ⊎ ¬ (LeadDigits t)
 lead_or_not [] = inr (λ h. h)
 lead_or_not (d ∷ ds) = by (up_to_or_not 49 d) (up_to_or_not d 57) (digits_or_not ds)
   where
-    by : (49 ≤ d) ⊎ ¬ (49 ≤ d) → (d ≤ 57) ⊎ ¬ (d ≤ 57) → AreDigits ds ⊎ ¬ (AreDigits ds) → LeadDigits (d ∷ ds) ⊎ ¬ (LeadDigits (d ∷ ds))
+    by : (49 ≤ d) ⊎ ¬ (49 ≤ d) → (d ≤ 57) ⊎ ¬ (d ≤ 57) → AreDigits ds ⊎ ¬ (AreDigits ds) → LeadDigits (d ∷ ds)
+        ⊎ ¬ (LeadDigits (d ∷ ds))
     by (inl a) (inl b) (inl c) = inl (a, b, c)
     by (inl a) (inl b) (inr c) = inr (λ h. c h.2)
     by (inl a) (inr b) c = inr (λ h. b h.1)
     by (inr a) b c = inr (λ h. a h.0)
 
-behind_minus : (t : Text) → ((digits : List ℕ) × (t ≡ 45 ∷ digits) × LeadDigits digits) ⊎ ((digits : List ℕ) → t ≡ 45 ∷ digits → ¬ (LeadDigits digits))
+behind_minus : (t : Text) → ((digits : List ℕ) × (t ≡ 45 ∷ digits) × LeadDigits digits)
+    ⊎ ((digits : List ℕ) → t ≡ 45 ∷ digits → ¬ (LeadDigits digits))
 behind_minus [] = inr (λ digits e h. absurd (cc))
 behind_minus (d ∷ ds) = by (d == 45) refl (lead_or_not ds)
   where
     by : (v : Bool) → (d == 45) ≡ v → LeadDigits ds ⊎ ¬ (LeadDigits ds)
-        → ((digits : List ℕ) × (d ∷ ds ≡ 45 ∷ digits) × LeadDigits digits) ⊎ ((digits : List ℕ) → d ∷ ds ≡ 45 ∷ digits → ¬ (LeadDigits digits))
+        → ((digits : List ℕ) × (d ∷ ds ≡ 45 ∷ digits) × LeadDigits digits)
+        ⊎ ((digits : List ℕ) → d ∷ ds ≡ 45 ∷ digits → ¬ (LeadDigits digits))
     by true e (inl h) = let same : d ≡ 45 = (Decides-eqb d 45).0 e in inl (ds, ap (λ x. x ∷ ds) same, h)
     by true e (inr h) = inr (λ digits is lead. let same : digits ≡ ds = cc in h (subst LeadDigits same lead))
     by false e h = inr (λ digits is lead. let same : d ≡ 45 = cc in let g = (Decides-eqb d 45).1 same in absurd (cc))
@@ -168,13 +176,15 @@ behind_minus (d ∷ ds) = by (d == 45) refl (lead_or_not ds)
 number_or_not : (t : Text) → ((z : ℤ) × SpellsNumber t z) ⊎ ((z : ℤ) → ¬ (SpellsNumber t z))
 number_or_not t = by (bytes_eq t (48 ∷ [])) refl (lead_or_not t) (behind_minus t)
   where
-    none : bytes_eq t (48 ∷ []) ≡ false → ¬ (LeadDigits t) → ((digits : List ℕ) → t ≡ 45 ∷ digits → ¬ (LeadDigits digits)) → (z : ℤ) → SpellsNumber t z → ⊥
+    none : bytes_eq t (48 ∷ []) ≡ false → ¬ (LeadDigits t)
+        → ((digits : List ℕ) → t ≡ 45 ∷ digits → ¬ (LeadDigits digits)) → (z : ℤ) → SpellsNumber t z → ⊥
     none e h k z (inl a) = let g = (bytes_eq-Decides t (48 ∷ [])).1 a.0 in absurd (cc)
     none e h k z (inr (inl a)) = h a.0
     none e h k z (inr (inr a)) = k a.0 a.1 a.2
 
     by : (v : Bool) → bytes_eq t (48 ∷ []) ≡ v → LeadDigits t ⊎ ¬ (LeadDigits t)
-        → ((digits : List ℕ) × (t ≡ 45 ∷ digits) × LeadDigits digits) ⊎ ((digits : List ℕ) → t ≡ 45 ∷ digits → ¬ (LeadDigits digits))
+        → ((digits : List ℕ) × (t ≡ 45 ∷ digits) × LeadDigits digits)
+        ⊎ ((digits : List ℕ) → t ≡ 45 ∷ digits → ¬ (LeadDigits digits))
         → ((z : ℤ) × SpellsNumber t z) ⊎ ((z : ℤ) → ¬ (SpellsNumber t z))
     by true e h k = inl (pos 0, inl ((bytes_eq-Decides t (48 ∷ [])).0 e, refl))
     by false e (inl h) k = inl (pos (value_from 0 t), inr (inl (h, refl)))
@@ -188,7 +198,8 @@ Decided f t = ((v : Value) × HoldsValue f t v) ⊎ ((n : ℕ) × IsAgainst f t 
 number_decided : (low high : ℤ) (t : Text) → Decided (NumberFrom low high) t
 number_decided low high t = by (number_or_not t)
   where
-    within : (z : ℤ) → SpellsNumber t z → (low ≤ℤ z) ⊎ (z <ℤ low) → (z ≤ℤ high) ⊎ (high <ℤ z) → Decided (NumberFrom low high) t
+    within : (z : ℤ) → SpellsNumber t z → (low ≤ℤ z) ⊎ (z <ℤ low) → (z ≤ℤ high) ⊎ (high <ℤ z)
+        → Decided (NumberFrom low high) t
     within z s (inl a) (inl b) = inl (Whole z, (s, (a, b)))
     within z s (inl a) (inr b) = inr (11, inr (refl, z, s, inr b))
     within z s (inr a) b = inr (11, inr (refl, z, s, inl a))
@@ -200,7 +211,8 @@ number_decided low high t = by (number_or_not t)
 bytes_decided : (most : ℕ) (t : Text) → Decided (BytesTo most) t
 bytes_decided most t = by (decode_of t) refl
   where
-    long : (bytes : List ℕ) → decode_of t ≡ Ok bytes → IsLong 1 most bytes ⊎ ¬ (IsLong 1 most bytes) → Decided (BytesTo most) t
+    long : (bytes : List ℕ) → decode_of t ≡ Ok bytes → IsLong 1 most bytes ⊎ ¬ (IsLong 1 most bytes)
+        → Decided (BytesTo most) t
     long bytes e (inl h) = inl (Plain bytes, (e, h))
     long bytes e (inr h) = inr (11, inr (refl, bytes, e, h))
 
@@ -208,18 +220,23 @@ bytes_decided most t = by (decode_of t) refl
     by (Ok bytes) e = long bytes e (long_or_not 1 most bytes)
     by (Err fault) e = inr (10, inl (refl, subst IsErr (sym e) (search rules)))
 
-text_decided : (f : Field) (P : Text → Type 0) (wanted : ℕ) (t : Text) → (P t → HoldsValue f t (Plain t)) → (¬ (P t) → IsAgainst f t wanted)
+text_decided : (f : Field) (P : Text → Type 0) (wanted : ℕ) (t : Text) → (P t → HoldsValue f t (Plain t))
+    → (¬ (P t) → IsAgainst f t wanted)
     → P t ⊎ ¬ (P t) → Decided f t
 text_decided f P wanted t within without (inl h) = inl (Plain t, within h)
 text_decided f P wanted t within without (inr h) = inr (wanted, without h)
 
 pub decided : (f : Field) (t : Text) → Decided f t
-decided (OneOf words) t = text_decided (OneOf words) (IsOneOf words) 10 t (λ h. (refl, h)) (λ h. (refl, h)) (choice_or_not words t)
+decided (OneOf words) t = text_decided (OneOf words) (IsOneOf words) 10 t (λ h. (refl, h)) (λ h. (refl, h))
+    (choice_or_not words t)
 decided (NumberFrom low high) t = number_decided low high t
 decided (BytesTo most) t = bytes_decided most t
-decided (TextOf least most) t = text_decided (TextOf least most) (IsText least most) 11 t (λ h. (refl, h)) (λ h. (refl, h)) (text_or_not least most t)
-decided AnIdentifier t = text_decided AnIdentifier IsIdentifier 11 t (λ h. (refl, h)) (λ h. (refl, h)) (identifier_or_not t)
-decided AContentType t = text_decided AContentType IsContentType 11 t (λ h. (refl, h)) (λ h. (refl, h)) (content_type_or_not t)
+decided (TextOf least most) t = text_decided (TextOf least most) (IsText least most) 11 t (λ h. (refl, h))
+    (λ h. (refl, h)) (text_or_not least most t)
+decided AnIdentifier t = text_decided AnIdentifier IsIdentifier 11 t (λ h. (refl, h)) (λ h. (refl, h))
+    (identifier_or_not t)
+decided AContentType t = text_decided AContentType IsContentType 11 t (λ h. (refl, h)) (λ h. (refl, h))
+    (content_type_or_not t)
 decided AName t = text_decided AName IsName 12 t (λ h. (refl, h)) (λ h. (refl, h)) (name_or_not t)
 
 -- ---- the fields of a form
@@ -232,7 +249,8 @@ all_decided [] (t ∷ ts) = inr (10, record { is_held = refl; is_least = λ m e.
 all_decided (f ∷ fs) [] = inr (10, record { is_held = refl; is_least = λ m e. omega (arith, e) })
 all_decided (f ∷ fs) (t ∷ ts) = by (decided f t) (all_decided fs ts)
   where
-    lower : (n k : ℕ) → IsAgainst f t n → IsLeast (IsAgainstSome fs ts) k → (v : Bool) → nat_le n k ≡ v → AllDecided (f ∷ fs) (t ∷ ts)
+    lower : (n k : ℕ) → IsAgainst f t n → IsLeast (IsAgainstSome fs ts) k → (v : Bool) → nat_le n k ≡ v
+        → AllDecided (f ∷ fs) (t ∷ ts)
     lower n k a l true e = inr (n, first_lower f fs t ts n k a l (grind (arith, nat_tests, e)))
     lower n k a l false e = inr (k, rest_lower f fs t ts n k a l (grind (arith, nat_tests, e)))
 

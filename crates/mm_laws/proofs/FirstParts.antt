@@ -1,5 +1,6 @@
 -- First parts of a list that is done in two parts.
-use Rattle.std.proofs.Common.{◌≡◌, ℕ, ◌+◌, ◌≤◌, List, [], ◌∷◌, ◌++◌, length, take, Option, Some, None, refl, sym, ap, ◌∙◌, arith}
+use Rattle.std.proofs.Common.{◌≡◌, ℕ, ◌+◌, ◌≤◌, List, [], ◌∷◌, ◌++◌, length, take, Option, Some, None, refl, sym, ap}
+use Rattle.std.proofs.Common.{◌∙◌, arith}
 use Rattle.std.proofs.lemmas.List.{take-append-le, length-append}
 use Rattle.std.proofs.Math.Seq.{take-append-add, take-length}
 use Rattle.mm_definitions.specs.Package.{Package}
@@ -16,11 +17,13 @@ pub if_ok_append : (v : Option Refusal) (c : Call) (xs ys : List Call) → if_ok
 if_ok_append None c xs ys = refl
 if_ok_append (Some r) c xs ys = refl
 
-accepted_append : (before after : List Call) (p : Package) → accepted p (before ++ after) ≡ accepted p before ++ accepted (run p before) after
+accepted_append : (before after : List Call) (p : Package) → accepted p (before ++ after) ≡ accepted p before
+    ++ accepted (run p before) after
 accepted_append [] after p = refl
 accepted_append (c ∷ cs) after p =
     ap (if_ok (refusal p c.command) c) (accepted_append cs after (step p c.command c.moment))
-    ∙ if_ok_append (refusal p c.command) c (accepted (step p c.command c.moment) cs) (accepted (run (step p c.command c.moment) cs) after)
+    ∙ if_ok_append (refusal p c.command) c (accepted (step p c.command c.moment) cs)
+    (accepted (run (step p c.command c.moment) cs) after)
 
 pub first_part_after : (p q : Package) (before after : List Call) (a : ℕ) → IsFirstPart (run p before) after a q
     → IsFirstPart p (before ++ after) (length (accepted p before) + a) q
@@ -31,7 +34,8 @@ first_part_after p q before after a part =
       count = length done + part.count;
       at_least = more (length done) a part.count part.at_least;
       at_most = at_most (length done) a part.count part.at_most;
-      there = there (length done) part.count (length rest) (length (accepted p (before ++ after))) part.there (ap length (accepted_append before after p) ∙ length-append done rest);
+      there = there (length done) part.count (length rest) (length (accepted p (before ++ after))) part.there
+          (ap length (accepted_append before after p) ∙ length-append done rest);
       is = part.is
           ∙ ap (λ r. run r (take part.count rest)) (sym (run_accepted before p))
           ∙ sym (run_append done (take part.count rest) p)
@@ -48,7 +52,8 @@ first_part_after p q before after a part =
     there : (n k l all : ℕ) → k ≤ l → all ≡ n + l → n + k ≤ all
     there n k l all h e = omega arith
 
-pub first_part_before : (p q : Package) (calls after : List Call) (a : ℕ) → IsFirstPart p calls a q → IsFirstPart p (calls ++ after) a q
+pub first_part_before : (p q : Package) (calls after : List Call) (a : ℕ) → IsFirstPart p calls a q
+    → IsFirstPart p (calls ++ after) a q
 first_part_before p q calls after a part =
     let done = accepted p calls in
     let rest = accepted (run p calls) after in
@@ -56,8 +61,10 @@ first_part_before p q calls after a part =
       count = part.count;
       at_least = part.at_least;
       at_most = part.at_most;
-      there = there part.count (length done) (length rest) (length (accepted p (calls ++ after))) part.there (ap length (accepted_append calls after p) ∙ length-append done rest);
-      is = part.is ∙ ap (run p) (sym (take-append-le part.count done rest part.there)) ∙ ap (λ l. run p (take part.count l)) (sym (accepted_append calls after p));
+      there = there part.count (length done) (length rest) (length (accepted p (calls ++ after))) part.there
+          (ap length (accepted_append calls after p) ∙ length-append done rest);
+      is = part.is ∙ ap (run p) (sym (take-append-le part.count done rest part.there))
+          ∙ ap (λ l. run p (take part.count l)) (sym (accepted_append calls after p));
     }
   where
     there : (k l m all : ℕ) → k ≤ l → all ≡ l + m → k ≤ all

@@ -30,13 +30,15 @@ AreFrom m edition i (e ∷ es) = (e.0 ≡ piece edition (pos i)) × (get m e.0 �
 at_first : (e : PieceKey × PieceRow) (es : List (PieceKey × PieceRow)) → find piece_cmp e.0 (e ∷ es) ≡ Some e.1
 at_first e es = ap (λ b. cond b (Some e.1) (find piece_cmp e.0 es)) (same_itself piece_keys e.0)
 
-past_first : (e : PieceKey × PieceRow) (es : List (PieceKey × PieceRow)) (q : PieceKey) → q ≢ e.0 → find piece_cmp q (e ∷ es) ≡ find piece_cmp q es
+past_first : (e : PieceKey × PieceRow) (es : List (PieceKey × PieceRow)) (q : PieceKey) → q ≢ e.0
+    → find piece_cmp q (e ∷ es) ≡ find piece_cmp q es
 past_first e es q d = elim (same_key piece_keys q e.0) as (λ _. find piece_cmp q (e ∷ es) ≡ find piece_cmp q es) [
   | inl s ↦ absurd (d s.0)
   | inr n ↦ ap (λ b. cond b (Some e.1) (find piece_cmp q es)) n.1
 ]
 
-found_below : (k q : PieceKey) (es : List (PieceKey × PieceRow)) → T (below_all piece_cmp k es) → is_some (find piece_cmp q es) ≡ true
+found_below : (k q : PieceKey) (es : List (PieceKey × PieceRow)) → T (below_all piece_cmp k es)
+    → is_some (find piece_cmp q es) ≡ true
     → T (is_lt (piece_cmp k q))
 found_below k q [] below there = absurd (let f : false ≡ true = there in cc)
 found_below k q (e ∷ es) below there =
@@ -47,7 +49,8 @@ found_below k q (e ∷ es) below there =
     ]
 
 -- in one edition the order is that of the numbers
-higher_not_below : (edition : Text) (low high : ℤ) → low <ℤ high → T (is_lt (piece_cmp (piece edition high) (piece edition low))) → ⊥
+higher_not_below : (edition : Text) (low high : ℤ) → low <ℤ high
+    → T (is_lt (piece_cmp (piece edition high) (piece edition low))) → ⊥
 higher_not_below edition low high h lt =
     let same : is_eq (text_cmp edition edition) ≡ true = same_itself texts edition in
     by (text_cmp edition edition) same (int_cmp high low) (int_cmp_is high low Greater h) lt
@@ -81,7 +84,8 @@ one_or_more i h = omega (arith, ints)
 
 module _ (m : PiecesPart) (edition : Text) (n : ℕ) (numbered : IsNumbered m edition n) where
   pub in_order : (i : ℕ) → 1 ≤ i → (es : List (PieceKey × PieceRow)) → T (is_sorted piece_cmp es)
-      → ((q : PieceKey) (x : PieceRow) → find piece_cmp q es ≡ Some x → (get m q ≡ Some x) × (q.edition ≡ edition) × (pos i ≤ℤ q.number))
+      → ((q : PieceKey) (x : PieceRow) → find piece_cmp q es ≡ Some x → (get m q ≡ Some x) × (q.edition ≡ edition)
+      × (pos i ≤ℤ q.number))
       → ((z : ℤ) → pos i ≤ℤ z → Stands m (piece edition z) → is_some (find piece_cmp (piece edition z) es) ≡ true)
       → AreFrom m edition i es
   in_order i low [] sorted sound all = none (get m (piece edition (pos i))) refl
@@ -97,10 +101,14 @@ module _ (m : PiecesPart) (edition : Text) (n : ℕ) (numbered : IsNumbered m ed
         | inl s ↦ s
         | inr less ↦
             let ranged = ((numbered e.0.number).0 (ap is_some (ap (get m) (sym named) ∙ first.0))).1 in
-            let there = all (pos i) (≤ℤ_refl (pos i)) ((numbered (pos i)).1 (one_or_more i low, at_most i n e.0.number less ranged)) in
-            let apart : piece edition (pos i) ≢ e.0 = λ s. differ i e.0.number less (sym (ap (λ (k : PieceKey). k.number) s)) in
+            let there = all (pos i) (≤ℤ_refl (pos i))
+            ((numbered (pos i)).1 (one_or_more i low, at_most i n e.0.number less ranged)) in
+            let apart : piece edition (pos i) ≢ e.0 = λ s. differ i e.0.number less
+            (sym (ap (λ (k : PieceKey). k.number) s)) in
             let behind = ap is_some (sym (past_first e es (piece edition (pos i)) apart)) ∙ there in
-            absurd (higher_not_below edition (pos i) e.0.number less (subst (λ k. T (is_lt (piece_cmp k (piece edition (pos i))))) named (found_below e.0 (piece edition (pos i)) es parts.0 behind)))
+            absurd (higher_not_below edition (pos i) e.0.number less
+            (subst (λ k. T (is_lt (piece_cmp k (piece edition (pos i))))) named
+            (found_below e.0 (piece edition (pos i)) es parts.0 behind)))
       ] in
       let key : e.0 ≡ piece edition (pos i) = named ∙ ap (piece edition) is_i in (
         key,
@@ -108,9 +116,15 @@ module _ (m : PiecesPart) (edition : Text) (n : ℕ) (numbered : IsNumbered m ed
         in_order (suc i) (still i low) es parts.1
             (λ q x f.
             let other : q ≢ e.0 = λ s. lost q s x f parts.0 in
-            let was = sound q x (past_first e es q other ∙ f) in
-            (was.0, was.1, one_more i q.number was.2 (λ s. other (ap (λ t. piece t q.number) was.1 ∙ ap (piece edition) s ∙ sym key))))
-            (λ z high stands. ap is_some (sym (past_first e es (piece edition z) (λ s. not_lower i z high (ap (λ (k : PieceKey). k.number) (s ∙ key))))) ∙ all z (looser i z high) stands),
+            let was = sound q x (past_first e es q other ∙ f) in (
+              was.0,
+              was.1,
+              one_more i q.number was.2
+                  (λ s. other (ap (λ t. piece t q.number) was.1 ∙ ap (piece edition) s ∙ sym key)),
+            ))
+            (λ z high stands. ap is_some (sym
+            (past_first e es (piece edition z) (λ s. not_lower i z high (ap (λ (k : PieceKey). k.number) (s ∙ key)))))
+            ∙ all z (looser i z high) stands),
       )
     where
       differ : (i : ℕ) (k : ℤ) → pos i <ℤ k → k ≡ pos i → ⊥
@@ -120,7 +134,8 @@ module _ (m : PiecesPart) (edition : Text) (n : ℕ) (numbered : IsNumbered m ed
       still i h = omega arith
 
       -- the first key is not found behind itself
-      lost : (q : PieceKey) → q ≡ e.0 → (x : PieceRow) → find piece_cmp q es ≡ Some x → T (below_all piece_cmp e.0 es) → ⊥
+      lost : (q : PieceKey) → q ≡ e.0 → (x : PieceRow) → find piece_cmp q es ≡ Some x → T (below_all piece_cmp e.0 es)
+          → ⊥
       lost q s x f below =
           let lt = found_below e.0 q es below (ap is_some f) in
           tied (piece_cmp e.0 e.0) (same_itself piece_keys e.0) (subst (λ k. T (is_lt (piece_cmp e.0 k))) s lt)
@@ -131,16 +146,22 @@ module _ (m : PiecesPart) (edition : Text) (n : ℕ) (numbered : IsNumbered m ed
           tied Greater a b = b
 
 -- the pieces of an edition, from the first on
-pub pieces_in_order : (p : Package) (edition : Text) (n : ℕ) → IsNumbered p.pieces edition n → AreFrom p.pieces edition 1 (pieces_of p edition)
+pub pieces_in_order : (p : Package) (edition : Text) (n : ℕ) → IsNumbered p.pieces edition n
+    → AreFrom p.pieces edition 1 (pieces_of p edition)
 pieces_in_order p edition n numbered =
     let test : PieceKey → Bool = λ k. same_text k.edition edition in
     let m = retain_keys p.pieces test in
     in_order p.pieces edition n numbered 1 (one_is) (entries m) (entries_sorted m)
     (λ q x f.
     let was = after_retain piece_keys p.pieces test q x (get-entries m q ∙ f) in
-    let of_edition = are_same texts q.edition edition was.0 in
-    (was.1, of_edition, ((numbered q.number).0 (ap is_some (ap (λ t. get p.pieces (piece t q.number)) (sym of_edition) ∙ was.1))).0))
-    (λ z low stands. ap is_some (sym (get-entries m (piece edition z)) ∙ kept piece_keys p.pieces test (piece edition z) (same_itself texts edition)) ∙ stands)
+    let of_edition = are_same texts q.edition edition was.0 in (
+      was.1,
+      of_edition,
+      ((numbered q.number).0
+          (ap is_some (ap (λ t. get p.pieces (piece t q.number)) (sym of_edition) ∙ was.1))).0,
+    ))
+    (λ z low stands. ap is_some (sym (get-entries m (piece edition z)) ∙ kept piece_keys p.pieces test (piece edition z)
+    (same_itself texts edition)) ∙ stands)
   where
     one_is : 1 ≤ 1
     one_is = omega arith

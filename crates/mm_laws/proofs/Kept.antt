@@ -13,10 +13,12 @@ use Rattle.mm_definitions.specs.declared.commands.Piece.{Piece}
 
 -- Where a package meets the rules and the command has no reason to be refused, what it gives meets the rules.
 abbrev pub Keeps : Command → Type 0
-Keeps c = (profile : Profile) (p : Package) (moment : ℕ) (stamp : Text) → Meets profile p → IsWithin profile c → IsMoment moment → IsStamp moment stamp
+Keeps c = (profile : Profile) (p : Package) (moment : ℕ) (stamp : Text) → Meets profile p → IsWithin profile c
+    → IsMoment moment → IsStamp moment stamp
     → least (own_reasons p c) ≡ None → Meets profile (effect p c stamp)
 
 -- the same of a piece
 abbrev pub PieceKeeps : Piece → Type 0
-PieceKeeps q = (profile : Profile) (p : Package) (moment : ℕ) (stamp : Text) → Meets profile p → IsPieceWithin profile q → IsMoment moment → IsStamp moment stamp
+PieceKeeps q = (profile : Profile) (p : Package) (moment : ℕ) (stamp : Text) → Meets profile p → IsPieceWithin profile q
+    → IsMoment moment → IsStamp moment stamp
     → least (piece_reasons p q) ≡ None → Meets profile (piece_effect p q stamp)

@@ -9,7 +9,8 @@ use Rattle.mm_definitions.specs.Bounds.{Profile}
 use Rattle.mm_definitions.specs.Package.{kind_text}
 use Rattle.mm_definitions.specs.Effects.{step_kind, plain_kind}
 use Rattle.mm_definitions.specs.Conditions.{relation_text}
-use Rattle.mm_definitions.specs.Fields.{Field, OneOf, NumberFrom, BytesTo, TextOf, AnIdentifier, AContentType, AName, Value, Whole, Plain, HoldsValue, AllHold}
+use Rattle.mm_definitions.specs.Fields.{Field, OneOf, NumberFrom, BytesTo, TextOf, AnIdentifier, AContentType, AName}
+use Rattle.mm_definitions.specs.Fields.{Value, Whole, Plain, HoldsValue, AllHold}
 use Rattle.mm_definitions.specs.Records.{Form, form_of, piece_forms, other_forms, record_form, stage_form, with_piece}
 use Rattle.mm_definitions.specs.Records.{id_field, step_words, kind_words, relation_words, IsLeast, IsMet, IsUnmet}
 use Rattle.mm_definitions.specs.Records.{Spells, HoldsAgainst, SpellsPiece, HoldsAgainstPiece, command_word}
@@ -106,7 +107,8 @@ AreShapes [] [] = ⊤
 AreShapes (f ∷ fs) (s ∷ ss) = IsShape f s × AreShapes fs ss
 AreShapes _ _ = ⊥
 
-all_shaped : (fs : Form) (ss : List Shape) → AreShapes fs ss → (ts : List Text) (vs : List Value) → AllHold fs ts vs → vs ≡ shaped ss vs
+all_shaped : (fs : Form) (ss : List Shape) → AreShapes fs ss → (ts : List Text) (vs : List Value) → AllHold fs ts vs
+    → vs ≡ shaped ss vs
 all_shaped [] [] a [] [] h = refl
 all_shaped [] [] a [] (v ∷ vs) h = absurd h
 all_shaped [] [] a (t ∷ ts) vs h = absurd h
@@ -114,14 +116,16 @@ all_shaped [] (s ∷ ss) a ts vs h = absurd a
 all_shaped (f ∷ fs) [] a ts vs h = absurd a
 all_shaped (f ∷ fs) (s ∷ ss) a [] vs h = absurd h
 all_shaped (f ∷ fs) (s ∷ ss) a (t ∷ ts) [] h = absurd h
-all_shaped (f ∷ fs) (s ∷ ss) a (t ∷ ts) (v ∷ vs) h = let e = a.0 t v h.0 in let es = all_shaped fs ss a.1 ts vs h.1 in ap (λ x. x ∷ vs) e ∙ ap (λ xs. s v ∷ xs) es
+all_shaped (f ∷ fs) (s ∷ ss) a (t ∷ ts) (v ∷ vs) h = let e = a.0 t v h.0 in let es = all_shaped fs ss a.1 ts vs h.1 in
+    ap (λ x. x ∷ vs) e ∙ ap (λ xs. s v ∷ xs) es
 
 -- a form's values have these shapes
 record HasShapes (fs : Form) : Type 0 where
   shapes : List Shape
   are : AreShapes fs shapes
 
-shaped_as : {fs : Form} (s : HasShapes fs) (ts : List Text) (vs : List Value) → AllHold fs ts vs → vs ≡ shaped s.shapes vs
+shaped_as : {fs : Form} (s : HasShapes fs) (ts : List Text) (vs : List Value) → AllHold fs ts vs
+    → vs ≡ shaped s.shapes vs
 shaped_as {fs = fs} s ts vs h = all_shaped fs s.shapes s.are ts vs h
 
 abbrev tile_shapes : HasShapes forms.tile_form
@@ -132,7 +136,11 @@ tile_shapes = record {
 }
 
 abbrev tile_drop_shapes : HasShapes forms.tile_drop_form
-tile_drop_shapes = record { shapes = plain_shape ∷ count_shape ∷ count_shape ∷ count_shape ∷ []; are = (name_shape, (natural_shape _ _, (natural_shape _ _, (natural_shape _ _, tt)))) }
+tile_drop_shapes = record {
+  shapes = plain_shape ∷ count_shape ∷ count_shape ∷ count_shape
+      ∷ [];
+  are = (name_shape, (natural_shape _ _, (natural_shape _ _, (natural_shape _ _, tt))));
+}
 
 abbrev row_shapes : HasShapes forms.row_form
 row_shapes = record {
@@ -145,10 +153,18 @@ abbrev item_shapes : HasShapes forms.item_form
 item_shapes = record { shapes = plain_shape ∷ whole_shape ∷ []; are = (name_shape, (number_shape _ _, tt)) }
 
 abbrev media_shapes : HasShapes forms.media_form
-media_shapes = record { shapes = plain_shape ∷ whole_shape ∷ plain_shape ∷ plain_shape ∷ []; are = (name_shape, (number_shape _ _, (type_shape, (bytes_shape _, tt)))) }
+media_shapes = record {
+  shapes = plain_shape ∷ whole_shape ∷ plain_shape ∷ plain_shape
+      ∷ [];
+  are = (name_shape, (number_shape _ _, (type_shape, (bytes_shape _, tt))));
+}
 
 abbrev map_shapes : HasShapes forms.map_form
-map_shapes = record { shapes = plain_shape ∷ whole_shape ∷ whole_shape ∷ []; are = (name_shape, (number_shape _ _, (number_shape _ _, tt))) }
+map_shapes = record {
+  shapes = plain_shape ∷ whole_shape ∷ whole_shape
+      ∷ [];
+  are = (name_shape, (number_shape _ _, (number_shape _ _, tt)));
+}
 
 abbrev srs_shapes : HasShapes forms.srs_form
 srs_shapes = record {
@@ -196,10 +212,18 @@ matrix_shapes profile = record {
 }
 
 abbrev table_shapes : HasShapes forms.table_form
-table_shapes = record { shapes = plain_shape ∷ kind_shape ∷ plain_shape ∷ []; are = (name_shape, (kinds_shape, (identifier_shape, tt))) }
+table_shapes = record {
+  shapes = plain_shape ∷ kind_shape ∷ plain_shape
+      ∷ [];
+  are = (name_shape, (kinds_shape, (identifier_shape, tt)));
+}
 
 abbrev relation_shapes : HasShapes forms.relation_form
-relation_shapes = record { shapes = plain_shape ∷ plain_shape ∷ plain_shape ∷ relation_shape ∷ []; are = (name_shape, (name_shape, (name_shape, (relations_shape, tt)))) }
+relation_shapes = record {
+  shapes = plain_shape ∷ plain_shape ∷ plain_shape ∷ relation_shape
+      ∷ [];
+  are = (name_shape, (name_shape, (name_shape, (relations_shape, tt))));
+}
 
 abbrev name_shapes : HasShapes forms.name_form
 name_shapes = record { shapes = plain_shape ∷ []; are = (name_shape, tt) }
@@ -207,12 +231,15 @@ name_shapes = record { shapes = plain_shape ∷ []; are = (name_shape, tt) }
 -- ---- a form of a list of forms, by its word
 abbrev AllMade : (P : Text → List Value → Type 0) → List (Text × Form) → Type 0
 AllMade P [] = ⊤
-AllMade P (entry ∷ entries) = ((ts : List Text) (vs : List Value) → AllHold entry.1 ts vs → P entry.0 vs) × AllMade P entries
+AllMade P (entry ∷ entries) = ((ts : List Text) (vs : List Value) → AllHold entry.1 ts vs → P entry.0 vs)
+    × AllMade P entries
 
-made_by_word : (P : Text → List Value → Type 0) (entries : List (Text × Form)) → AllMade P entries → (word : Text) (ts : List Text) (vs : List Value)
+made_by_word : (P : Text → List Value → Type 0) (entries : List (Text × Form)) → AllMade P entries
+    → (word : Text) (ts : List Text) (vs : List Value)
     → IsMet (form_of entries word) ts vs → P word vs
 made_by_word P [] h word ts vs met = absurd met
-made_by_word P (entry ∷ entries) h word ts vs met = by (bytes_eq word entry.0) refl (made_by_word P entries h.1 word ts vs) met
+made_by_word P (entry ∷ entries) h word ts vs met = by (bytes_eq word entry.0) refl
+    (made_by_word P entries h.1 word ts vs) met
   where
     by : (v : Bool) → bytes_eq word entry.0 ≡ v → (IsMet (form_of entries word) ts vs → P word vs)
         → IsMet (if v then Some entry.1 else form_of entries word) ts vs → P word vs
@@ -250,7 +277,8 @@ pieces_made profile = (
   ),
 )
 
-piece_made : (profile : Profile) (word : Text) (ts : List Text) (vs : List Value) → IsMet (form_of (piece_forms profile) word) ts vs → IsPieceMade word vs
+piece_made : (profile : Profile) (word : Text) (ts : List Text) (vs : List Value)
+    → IsMet (form_of (piece_forms profile) word) ts vs → IsPieceMade word vs
 piece_made profile = made_by_word IsPieceMade (piece_forms profile) (pieces_made profile)
 
 -- ---- commands
@@ -314,7 +342,8 @@ commands_made profile = (
   ),
 )
 
-staged_made : (a b word : Text) (ts : List Text) (v w x : Value) (vs : List Value) → HoldsValue AName a v → HoldsValue id_field b w
+staged_made : (a b word : Text) (ts : List Text) (v w x : Value) (vs : List Value) → HoldsValue AName a v
+    → HoldsValue id_field b w
     → HoldsValue (OneOf (word ∷ [])) word x → IsPieceMade word vs
     → IsCommandMade (codes "stage") (v ∷ w ∷ x ∷ vs)
 staged_made a b word ts v w x vs h k l (q, is, are) =
@@ -333,35 +362,44 @@ stage_made profile (a ∷ []) vs h = absurd h
 stage_made profile (a ∷ b ∷ []) vs h = absurd h
 stage_made profile (a ∷ b ∷ word ∷ ts) vs h = by (form_of (piece_forms profile) word) refl vs h
   where
-    by : (o : Option Form) → form_of (piece_forms profile) word ≡ o → (vs : List Value) → IsMet (with_piece o word) (a ∷ b ∷ word ∷ ts) vs
+    by : (o : Option Form) → form_of (piece_forms profile) word ≡ o → (vs : List Value)
+        → IsMet (with_piece o word) (a ∷ b ∷ word ∷ ts) vs
         → IsCommandMade (codes "stage") vs
     by None e vs h = absurd h
     by (Some form) e [] h = absurd h
     by (Some form) e (v ∷ []) h = absurd h.1
     by (Some form) e (v ∷ w ∷ []) h = absurd h.1.1
-    by (Some form) e (v ∷ w ∷ x ∷ vs) h = staged_made a b word ts v w x vs h.0 h.1.0 h.1.1.0 (piece_made profile word ts vs (subst (λ o. IsMet o ts vs) (sym e) h.1.1.1))
+    by (Some form) e (v ∷ w ∷ x ∷ vs) h = staged_made a b word ts v w x vs h.0 h.1.0 h.1.1.0
+        (piece_made profile word ts vs (subst (λ o. IsMet o ts vs) (sym e) h.1.1.1))
 
-command_made : (profile : Profile) (word : Text) (ts : List Text) (vs : List Value) → IsMet (record_form profile (word ∷ ts)) ts vs → IsCommandMade word vs
+command_made : (profile : Profile) (word : Text) (ts : List Text) (vs : List Value)
+    → IsMet (record_form profile (word ∷ ts)) ts vs → IsCommandMade word vs
 command_made profile word ts vs met = by (bytes_eq word (codes "stage")) refl met
   where
     by : (v : Bool) → bytes_eq word (codes "stage") ≡ v
-        → IsMet (if v then stage_form profile ts else form_of (piece_forms profile ++ other_forms profile) word) ts vs → IsCommandMade word vs
+        → IsMet (if v then stage_form profile ts else form_of (piece_forms profile ++ other_forms profile) word) ts vs
+        → IsCommandMade word vs
     by true e met = subst (λ w. IsCommandMade w vs) (sym ((bytes_eq-Decides word (codes "stage")).0 e)) (stage_made profile ts vs met)
-    by false e met = made_by_word IsCommandMade (piece_forms profile ++ other_forms profile) (commands_made profile) word ts vs met
+    by false e met = made_by_word IsCommandMade (piece_forms profile ++ other_forms profile) (commands_made profile)
+        word ts vs met
 
 -- ---- a record spells a command, or a number is against it
-met_or_unmet : (o : Option Form) (ts : List Text) → ((vs : List Value) × IsMet o ts vs) ⊎ ((n : ℕ) × IsLeast (IsUnmet o ts) n)
+met_or_unmet : (o : Option Form) (ts : List Text) → ((vs : List Value) × IsMet o ts vs)
+    ⊎ ((n : ℕ) × IsLeast (IsUnmet o ts) n)
 met_or_unmet None ts = inr (10, record { is_held = refl; is_least = λ m e. omega (arith, e) })
 met_or_unmet (Some form) ts = all_decided form ts
 
-pub command_or_number : (profile : Profile) (texts : List Text) → ((c : Command) × Spells profile texts c) ⊎ ((n : ℕ) × IsLeast (HoldsAgainst profile texts) n)
+pub command_or_number : (profile : Profile) (texts : List Text) → ((c : Command) × Spells profile texts c)
+    ⊎ ((n : ℕ) × IsLeast (HoldsAgainst profile texts) n)
 command_or_number profile [] = inr (10, record { is_held = refl; is_least = λ m e. omega (arith, e) })
 command_or_number profile (word ∷ ts) = by (met_or_unmet (record_form profile (word ∷ ts)) ts)
   where
-    spelled : (vs : List Value) → IsMet (record_form profile (word ∷ ts)) ts vs → IsCommandMade word vs → (c : Command) × Spells profile (word ∷ ts) c
+    spelled : (vs : List Value) → IsMet (record_form profile (word ∷ ts)) ts vs → IsCommandMade word vs → (c : Command)
+        × Spells profile (word ∷ ts) c
     spelled vs met (c, is, are) = (c, (is, subst (IsMet (record_form profile (word ∷ ts)) ts) are met))
 
-    by : ((vs : List Value) × IsMet (record_form profile (word ∷ ts)) ts vs) ⊎ ((n : ℕ) × IsLeast (IsUnmet (record_form profile (word ∷ ts)) ts) n)
+    by : ((vs : List Value) × IsMet (record_form profile (word ∷ ts)) ts vs)
+        ⊎ ((n : ℕ) × IsLeast (IsUnmet (record_form profile (word ∷ ts)) ts) n)
         → ((c : Command) × Spells profile (word ∷ ts) c) ⊎ ((n : ℕ) × IsLeast (HoldsAgainst profile (word ∷ ts)) n)
     by (inl h) = inl (spelled h.0 h.1 (command_made profile word ts h.0 h.1))
     by (inr l) = inr l
@@ -371,10 +409,13 @@ pub piece_or_number : (profile : Profile) (texts : List Text)
 piece_or_number profile [] = inr (10, record { is_held = refl; is_least = λ m e. omega (arith, e) })
 piece_or_number profile (word ∷ ts) = by (met_or_unmet (form_of (piece_forms profile) word) ts)
   where
-    spelled : (vs : List Value) → IsMet (form_of (piece_forms profile) word) ts vs → IsPieceMade word vs → (q : Piece) × SpellsPiece profile (word ∷ ts) q
+    spelled : (vs : List Value) → IsMet (form_of (piece_forms profile) word) ts vs → IsPieceMade word vs → (q : Piece)
+        × SpellsPiece profile (word ∷ ts) q
     spelled vs met (q, is, are) = (q, (is, subst (IsMet (form_of (piece_forms profile) word) ts) are met))
 
-    by : ((vs : List Value) × IsMet (form_of (piece_forms profile) word) ts vs) ⊎ ((n : ℕ) × IsLeast (IsUnmet (form_of (piece_forms profile) word) ts) n)
-        → ((q : Piece) × SpellsPiece profile (word ∷ ts) q) ⊎ ((n : ℕ) × IsLeast (HoldsAgainstPiece profile (word ∷ ts)) n)
+    by : ((vs : List Value) × IsMet (form_of (piece_forms profile) word) ts vs)
+        ⊎ ((n : ℕ) × IsLeast (IsUnmet (form_of (piece_forms profile) word) ts) n)
+        → ((q : Piece) × SpellsPiece profile (word ∷ ts) q)
+        ⊎ ((n : ℕ) × IsLeast (HoldsAgainstPiece profile (word ∷ ts)) n)
     by (inl h) = inl (spelled h.0 h.1 (piece_made profile word ts h.0 h.1))
     by (inr l) = inr l

@@ -26,11 +26,14 @@ product_tells b g e =
       down = are_same numbers (b.max_y -ℤ b.min_y) ((g.matrix_height *ℤ g.tile_height) *ℤ g.pixel_y_size) p.1;
     }
 
-fits_in : (s : Option MatrixSet) (g : Grid) → (r : MatrixSet) → s ≡ Some r → at_value (λ s. not (is_product s.box g)) s ≡ false → FitsIn s g
-fits_in s g r e h = subst (λ v. FitsIn v g) (sym e) (product_tells r.box g (not-false _ (ap (at_value (λ s. not (is_product s.box g))) (sym e) ∙ h)))
+fits_in : (s : Option MatrixSet) (g : Grid) → (r : MatrixSet) → s ≡ Some r
+    → at_value (λ s. not (is_product s.box g)) s ≡ false → FitsIn s g
+fits_in s g r e h = subst (λ v. FitsIn v g) (sym e)
+    (product_tells r.box g (not-false _ (ap (at_value (λ s. not (is_product s.box g))) (sym e) ∙ h)))
 
 -- a tile that lies in a matrix still does, where matrices are added
-pub still_inside : (old new : FinMap level_cmp Grid) → ((k : Level) (g : Grid) → Has old k g → Has new k g) → (k : Level) (column row : _)
+pub still_inside : (old new : FinMap level_cmp Grid) → ((k : Level) (g : Grid) → Has old k g → Has new k g)
+    → (k : Level) (column row : _)
     → IsInside (get old k) column row → IsInside (get new k) column row
 still_inside old new more k column row h = found (get old k) refl h where
   found : (v : Option Grid) → get old k ≡ v → IsInside v column row → IsInside (get new k) column row
@@ -44,7 +47,8 @@ matrix table zoom m profile p moment stamp h within low is none =
     (and_false (contains_key p.contents table) (not (is_pyramid p.kinds table)) r.1.0
     (not-false (contains_key p.contents table) r.0)) in
     let is_one : IsPyramid p.kinds table = is_pyramid_tells p.kinds table pyramid in
-    let new : contains_key p.matrices (level table (pos zoom)) ≡ false = and_false (is_pyramid p.kinds table) (contains_key p.matrices (level table (pos zoom))) r.1.1.0 pyramid in
+    let new : contains_key p.matrices (level table (pos zoom)) ≡ false = and_false (is_pyramid p.kinds table)
+    (contains_key p.matrices (level table (pos zoom))) r.1.1.0 pyramid in
     let set = pyramid_set p.contents p.kinds p.sets h.q5 table is_one in
     let fits : FitsIn (get p.sets table) (grid m) = fits_in (get p.sets table) (grid m) set.0 set.1
     (and_false (is_pyramid p.kinds table) (at_value (λ s. not (is_product s.box (grid m))) (get p.sets table))
@@ -53,17 +57,20 @@ matrix table zoom m profile p moment stamp h within low is none =
     suits_unless_clashes p table (pos zoom) (grid m)
     (and_false (is_pyramid p.kinds table) (clashes p table (pos zoom) (grid m)) r.1.1.1.1.0 pyramid) in
     let still = kept_by_new levels p.matrices (level table (pos zoom)) (grid m) new in
-    touch_keeps profile (record p { matrices = insert p.matrices (level table (pos zoom)) (grid m) }) table stamp moment low is (record {
+    touch_keeps profile (record p { matrices = insert p.matrices (level table (pos zoom)) (grid m) }) table stamp moment
+    low is (record {
       q1 = h.q1;
       q2 = h.q2;
       q3 = h.q3;
       q4 = h.q4;
       q5 = h.q5;
       q6 = h.q6;
-      q7 = each_put levels p.matrices (level table (pos zoom)) (grid m) (λ k g. IsPyramid p.kinds k.table × FitsIn (get p.sets k.table) g) h.q7 (is_one, fits);
+      q7 = each_put levels p.matrices (level table (pos zoom)) (grid m)
+          (λ k g. IsPyramid p.kinds k.table × FitsIn (get p.sets k.table) g) h.q7 (is_one, fits);
       q8 = still_finer p.matrices table (pos zoom) (grid m) (has_kind p.kinds table Two) all h.q8;
       q9 = still_halved p.kinds p.matrices table (pos zoom) (grid m) all h.q9;
-      q10 = λ k bytes e. still_inside p.matrices (insert p.matrices (level table (pos zoom)) (grid m)) still (level k.table k.zoom) k.column k.row (h.q10 k bytes e);
+      q10 = λ k bytes e. still_inside p.matrices (insert p.matrices (level table (pos zoom)) (grid m)) still
+          (level k.table k.zoom) k.column k.row (h.q10 k bytes e);
       q11 = h.q11;
       q12 = h.q12;
       q13 = h.q13;
@@ -74,16 +81,17 @@ matrix table zoom m profile p moment stamp h within low is none =
         contents = h.q16.contents;
         kinds = h.q16.kinds;
         sets = h.q16.sets;
-        matrices = each_put levels p.matrices (level table (pos zoom)) (grid m) (MatrixWithin profile) h.q16.matrices (record {
-          table = within.0;
-          zoom = within.1;
-          matrix_width = within.2.mw;
-          matrix_height = within.2.mh;
-          tile_width = within.2.tw;
-          tile_height = within.2.th;
-          pixel_x_size = within.2.px;
-          pixel_y_size = within.2.py;
-        });
+        matrices = each_put levels p.matrices (level table (pos zoom)) (grid m) (MatrixWithin profile) h.q16.matrices
+            (record {
+              table = within.0;
+              zoom = within.1;
+              matrix_width = within.2.mw;
+              matrix_height = within.2.mh;
+              tile_width = within.2.tw;
+              tile_height = within.2.th;
+              pixel_x_size = within.2.px;
+              pixel_y_size = within.2.py;
+            });
         extensions = h.q16.extensions;
         tiles = h.q16.tiles;
         rows = h.q16.rows;

@@ -3,10 +3,12 @@ use Rattle.std.specs.Prelude.{◌≡◌, None}
 use Rattle.std.specs.FinMap.{get}
 use Rattle.mm_definitions.specs.Bounds.{IsName, Profile}
 use Rattle.mm_definitions.specs.Parts.{Each}
-use Rattle.mm_definitions.specs.Package.{Package, TilesPart, RowsPart, MediaPart, RelationsPart, ExtensionsPart, PairingsPart}
+use Rattle.mm_definitions.specs.Package.{Package, TilesPart, RowsPart, MediaPart, RelationsPart, ExtensionsPart}
+use Rattle.mm_definitions.specs.Package.{PairingsPart}
 use Rattle.mm_definitions.specs.Package.{EditionsPart, PiecesPart, HasKind}
 use Rattle.mm_definitions.specs.Rules.{Meets, TilesInside, PairingsJoin, RelationsSuited, ExactExtensions, Editions}
-use Rattle.mm_definitions.specs.Rules.{TileWithin, RowWithin, MediumWithin, PairingWithin, ExtensionWithin, RelationWithin}
+use Rattle.mm_definitions.specs.Rules.{TileWithin, RowWithin, MediumWithin, PairingWithin, ExtensionWithin}
+use Rattle.mm_definitions.specs.Rules.{RelationWithin}
 use Rattle.mm_definitions.specs.Rules.{EditionWithin, PieceWithin}
 use Rattle.mm_definitions.specs.declared.commands.Kind.TheVariants as kinds
 
@@ -170,38 +172,39 @@ module _ (profile : Profile) (p : Package) (h : Meets profile p) where
       → Each relations RelationWithin
       → Each pairings PairingWithin
       → Meets profile (record p { relations = relations; extensions = extensions; pairings = pairings })
-  with_relations relations extensions pairings of_mappings suited join exact extensions_within relations_within pairings_within = record {
-    q1 = h.q1;
-    q2 = h.q2;
-    q3 = h.q3;
-    q4 = record { of_tables = h.q4.of_tables; of_mappings = of_mappings; of_editions = h.q4.of_editions };
-    q5 = h.q5;
-    q6 = h.q6;
-    q7 = h.q7;
-    q8 = h.q8;
-    q9 = h.q9;
-    q10 = h.q10;
-    q11 = h.q11;
-    q12 = suited;
-    q13 = join;
-    q14 = exact;
-    q15 = h.q15;
-    q16 = record {
-      systems = h.q16.systems;
-      contents = h.q16.contents;
-      kinds = h.q16.kinds;
-      sets = h.q16.sets;
-      matrices = h.q16.matrices;
-      extensions = extensions_within;
-      tiles = h.q16.tiles;
-      rows = h.q16.rows;
-      media = h.q16.media;
-      relations = relations_within;
-      pairings = pairings_within;
-      editions = h.q16.editions;
-      pieces = h.q16.pieces;
-    };
-  }
+  with_relations relations extensions pairings of_mappings suited join exact extensions_within relations_within
+      pairings_within = record {
+        q1 = h.q1;
+        q2 = h.q2;
+        q3 = h.q3;
+        q4 = record { of_tables = h.q4.of_tables; of_mappings = of_mappings; of_editions = h.q4.of_editions };
+        q5 = h.q5;
+        q6 = h.q6;
+        q7 = h.q7;
+        q8 = h.q8;
+        q9 = h.q9;
+        q10 = h.q10;
+        q11 = h.q11;
+        q12 = suited;
+        q13 = join;
+        q14 = exact;
+        q15 = h.q15;
+        q16 = record {
+          systems = h.q16.systems;
+          contents = h.q16.contents;
+          kinds = h.q16.kinds;
+          sets = h.q16.sets;
+          matrices = h.q16.matrices;
+          extensions = extensions_within;
+          tiles = h.q16.tiles;
+          rows = h.q16.rows;
+          media = h.q16.media;
+          relations = relations_within;
+          pairings = pairings_within;
+          editions = h.q16.editions;
+          pieces = h.q16.pieces;
+        };
+      }
 
   pub with_editions : (editions : EditionsPart) → (pieces : PiecesPart)
       → Each editions (λ e _. IsName e)

@@ -11,7 +11,8 @@ use Rattle.mm_definitions.proofs.StampBack.{text_of, shown_parts, same_day, day_
 use Rattle.mm_laws.proofs.StampFound.{stamp_is}
 
 pub one_stamp : (moment : ℕ) (text other : Text) → IsStamp moment text → IsStamp moment other → text ≡ other
-one_stamp moment text other s t = s.spelled ∙ text_of s.date t.date (moment % 86400000) (epoch_day_injective s.date t.date (s.day ∙ sym t.day)) ∙ sym t.spelled
+one_stamp moment text other s t = s.spelled
+    ∙ text_of s.date t.date (moment % 86400000) (epoch_day_injective s.date t.date (s.day ∙ sym t.day)) ∙ sym t.spelled
 
 within_days : (moment : ℕ) (z : ℤ) → z ≡ pos (moment / 86400000) → z ≤ℤ pos 2932896 → moment ≤ 253402300799999
 within_days moment z e h = let low : moment / 86400000 ≤ 2932896 = omega (arith, ints, e, h) in omega (arith, low)
@@ -30,5 +31,6 @@ pub one_moment : (m n : ℕ) (text : Text) → IsStamp m text → IsStamp n text
 one_moment m n text s t =
     let a = shown_parts text m s in
     let b = shown_parts text n t in
-    let day = day_of s.date t.date (same_day (pos (year_in text)) (pos (pair_at text 5)) (pos (pair_at text 8)) s.date t.date a.0 b.0) in
+    let day = day_of s.date t.date (same_day (pos (year_in text)) (pos (pair_at text 5)) (pos (pair_at text 8)) s.date
+    t.date a.0 b.0) in
     same_parts m n (same_pos _ _ (sym s.day ∙ day ∙ t.day)) (sym a.1 ∙ b.1)

@@ -45,7 +45,8 @@ pub same_as : (a b : ℤ) → a ≡ b → same_number a b ≡ true
 same_as a b e = elim (same_key numbers a b) as (λ _. same_number a b ≡ true) [ inl s ↦ s.1 | inr n ↦ absurd (n.0 e) ]
 
 other_than : (a b : ℤ) → a ≢ b → same_number a b ≡ false
-other_than a b d = elim (same_key numbers a b) as (λ _. same_number a b ≡ false) [ inl s ↦ absurd (d s.0) | inr n ↦ n.1 ]
+other_than a b d = elim (same_key numbers a b) as (λ _. same_number a b ≡ false)
+    [ inl s ↦ absurd (d s.0) | inr n ↦ n.1 ]
 
 not_next : (n : ℕ) (z : ℤ) → z ≤ℤ pos n → z ≢ pos (n + 1)
 not_next n z h e = omega (arith, ints)
@@ -82,7 +83,11 @@ far n z a = omega (arith, ints)
 abbrev of_stage : ℤ → Option Text → ℕ → Bool → Option ℕ
 of_stage number v count equal =
     least ((51, not (is_some v))
-    ∷ (52, at_value (same_text open_state) v && (int_lt (pos (count + 1)) number || (int_le number (pos count) && not equal)))
+    ∷ (
+      52,
+      at_value (same_text open_state) v
+          && (int_lt (pos (count + 1)) number || (int_le number (pos count) && not equal)),
+    )
     ∷ (54, at_value (same_text open_state) v && same_number number (pos (count + 1)) && (count == MostPieces))
     ∷ (55, is_some v && not (at_value (same_text open_state) v)) ∷ [])
 
@@ -106,7 +111,8 @@ module _ (p : Package) (edition : Text) (number : ℤ) (q : Piece) where
   pub stage_55 : get p.editions edition ≡ Some published_state → why ≡ Some 55
   stage_55 is = ap (λ v. of_stage number v (piece_count p edition) equal) is
 
-  module _ (n : ℕ) (most : n ≤ MostPieces) (numbered : IsNumbered p.pieces edition n) (low : IsId number) (open_is : get p.editions edition ≡ Some open_state) where
+  module _ (n : ℕ) (most : n ≤ MostPieces) (numbered : IsNumbered p.pieces edition n) (low : IsId number)
+      (open_is : get p.editions edition ≡ Some open_state) where
     abbrev apart : Bool → Bool
     apart same = int_lt (pos (n + 1)) number || (int_le number (pos n) && not same)
 
@@ -116,7 +122,8 @@ module _ (p : Package) (edition : Text) (number : ℤ) (q : Piece) where
     why_is : (same : Bool) → equal ≡ same → why ≡ of_open (apart same) full
     why_is same e =
         ap (λ v. of_stage number v (piece_count p edition) equal) open_is
-        ∙ (ap (λ c. of_stage number (Some open_state) c equal) (piece_count-is p edition n numbered) ∙ ap (of_stage number (Some open_state) n) e)
+        ∙ (ap (λ c. of_stage number (Some open_state) c equal) (piece_count-is p edition n numbered)
+        ∙ ap (of_stage number (Some open_state) n) e)
 
     -- where a piece stands at the number
     module _ (row : PieceRow) (there : get p.pieces (piece edition number) ≡ Some row) where
@@ -124,7 +131,8 @@ module _ (p : Package) (edition : Text) (number : ℤ) (q : Piece) where
       within_n = ((numbered number).0 (ap is_some there)).1
 
       apart_is : (same : Bool) → apart same ≡ not same
-      apart_is same = ap (λ b. b || (int_le number (pos n) && not same)) (not_past n number within_n) ∙ ap (λ b. b && not same) (is_within n number within_n)
+      apart_is same = ap (λ b. b || (int_le number (pos n) && not same)) (not_past n number within_n)
+          ∙ ap (λ b. b && not same) (is_within n number within_n)
 
       full_not : full ≡ false
       full_not = ap (λ b. b && (n == MostPieces)) (other_than number (pos (n + 1)) (not_next n number within_n))
@@ -134,7 +142,8 @@ module _ (p : Package) (edition : Text) (number : ℤ) (q : Piece) where
 
       pub stage_equal : piece_row q ≡ row → why ≡ None
       stage_equal e =
-          why_is true (equal_is true (ap (same_piece (piece_row q)) (sym e) ∙ row_itself (piece_row q))) ∙ ap (λ b. of_open b full) (apart_is true) ∙ ap (of_open false) full_not
+          why_is true (equal_is true (ap (same_piece (piece_row q)) (sym e) ∙ row_itself (piece_row q)))
+          ∙ ap (λ b. of_open b full) (apart_is true) ∙ ap (of_open false) full_not
 
       pub stage_other : (piece_row q ≢ row) → why ≡ Some 52
       stage_other d = by (same_piece (piece_row q) row) refl
@@ -146,7 +155,8 @@ module _ (p : Package) (edition : Text) (number : ℤ) (q : Piece) where
     -- where none stands there
     module _ (gone : get p.pieces (piece edition number) ≡ None) where
       outside_n : pos n <ℤ number
-      outside_n = beyond n number (λ h. let s : Stands p.pieces (piece edition number) = (numbered number).1 (low.0, h) in let f : false ≡ true = sym (ap is_some gone) ∙ s in cc)
+      outside_n = beyond n number (λ h. let s : Stands p.pieces (piece edition number) =
+          (numbered number).1 (low.0, h) in let f : false ≡ true = sym (ap is_some gone) ∙ s in cc)
 
       is_next : IsNextNumber p edition number → number ≡ pos (n + 1)
       is_next (inl first) = first_next n number first outside_n
@@ -156,7 +166,8 @@ module _ (p : Package) (edition : Text) (number : ℤ) (q : Piece) where
       beside e =
           why_is equal refl
           ∙ (ap (λ b. of_open (b || (int_le number (pos n) && not equal)) full) (next_not_past n number e)
-          ∙ (ap (λ b. of_open (b && not equal) full) (next_not_within n number e) ∙ ap (λ b. of_open false (b && (n == MostPieces))) (same_as number (pos (n + 1)) e)))
+          ∙ (ap (λ b. of_open (b && not equal) full) (next_not_within n number e)
+          ∙ ap (λ b. of_open false (b && (n == MostPieces))) (same_as number (pos (n + 1)) e)))
 
       -- the next number, of which there is room
       pub stage_next : IsNextNumber p edition number → number ≤ℤ pos 4096 → why ≡ None
@@ -167,15 +178,18 @@ module _ (p : Package) (edition : Text) (number : ℤ) (q : Piece) where
 
       -- a number before it has no piece
       pub stage_52 : pos 1 <ℤ number → contains_key p.pieces (piece edition (number -ℤ pos 1)) ≡ false → why ≡ Some 52
-      stage_52 past lost = why_is equal refl ∙ ap (λ b. of_open (b || (int_le number (pos n) && not equal)) full) (is_past n number (far n number not_before)) ∙ apart_52 full
+      stage_52 past lost = why_is equal refl ∙ ap (λ b. of_open (b || (int_le number (pos n) && not equal)) full)
+          (is_past n number (far n number not_before)) ∙ apart_52 full
         where
           not_before : pos n <ℤ (number -ℤ pos 1)
           not_before = beyond n (number -ℤ pos 1) (λ h.
-              let s : Stands p.pieces (piece edition (number -ℤ pos 1)) = (numbered (number -ℤ pos 1)).1 (one_low number past, h) in
+              let s : Stands p.pieces (piece edition (number -ℤ pos 1)) = (numbered (number -ℤ pos 1)).1
+              (one_low number past, h) in
               let f : false ≡ true = sym lost ∙ s in cc)
 
 -- a piece that stands is staged again
-pub again : (p : Package) (edition : Text) (number : ℤ) (q : Piece) (moment : ℕ) → refusal p (commands.Stage edition number q) ≡ None
+pub again : (p : Package) (edition : Text) (number : ℤ) (q : Piece) (moment : ℕ)
+    → refusal p (commands.Stage edition number q) ≡ None
     → get p.pieces (piece edition number) ≡ Some (piece_row q)
     → step p (commands.Stage edition number q) moment ≡ p
 again p edition number q moment free there =

@@ -17,7 +17,8 @@ use Rattle.mm_definitions.specs.Editions.{PieceRefusal, decided, piece_trial, af
 use Rattle.mm_definitions.specs.Step.{closed_by}
 use Rattle.mm_definitions.specs.declared.commands.Piece.{Piece}
 use Rattle.mm_definitions.specs.declared.commands.Piece.TheVariants as pieces
-use Rattle.mm_definitions.proofs.Parts.{same_some, same_itself, each_put, each_retain, after_put, after_retain, beside_put}
+use Rattle.mm_definitions.proofs.Parts.{same_some, same_itself, each_put, each_retain, after_put, after_retain}
+use Rattle.mm_definitions.proofs.Parts.{beside_put}
 use Rattle.mm_definitions.proofs.CleanTexts.{ascii_is_clean}
 use Rattle.mm_definitions.proofs.KeyLaws.{texts, numbers, piece_keys}
 use Rattle.mm_definitions.proofs.Listed.{along_entries}
@@ -46,7 +47,9 @@ row_itself r =
     let text : (t : Text) → same_text t t ≡ true = λ t. same_itself texts t in
     let number : (z : ℤ) → same_number z z ≡ true = λ z. same_itself numbers z in
     and_from _ _ (and_from _ _ (and_from _ _ (and_from _ _ (and_from _ _
-    (and_from _ _ (and_from _ _ (and_from _ _ (and_from _ _ (and_from _ _ (and_from _ _ (text r.kind) (text r.name)) (number r.k1)) (number r.k2)) (number r.k3)) (number r.k4)) (number r.k5)) (number r.k6)) (number r.k7)) (text r.t1)) (text r.t2)) (text r.bytes)
+    (and_from _ _ (and_from _ _ (and_from _ _
+    (and_from _ _ (and_from _ _ (and_from _ _ (text r.kind) (text r.name)) (number r.k1)) (number r.k2)) (number r.k3))
+    (number r.k4)) (number r.k5)) (number r.k6)) (number r.k7)) (text r.t1)) (text r.t2)) (text r.bytes)
 
 pub by_kind : (q : Piece) → piece_by_kind (piece_row q) ≡ Some q
 by_kind (pieces.Tile table zoom column row bytes) = refl
@@ -60,33 +63,43 @@ by_kind (pieces.MapDrop mapping base_id related_id) = refl
 by_kind (pieces.Matrix table zoom m) = refl
 
 pub read_back : (q : Piece) → row_piece (piece_row q) ≡ Some q
-read_back q = ap (if_spelled (piece_row q)) (by_kind q) ∙ ap (λ b. if b then Some q else None) (row_itself (piece_row q))
+read_back q = ap (if_spelled (piece_row q)) (by_kind q)
+    ∙ ap (λ b. if b then Some q else None) (row_itself (piece_row q))
 
-row_within : (profile : Profile) (r : PieceRow) → IsSpelled profile r → (q : Piece) → row_piece r ≡ Some q → IsPieceWithin profile q
+row_within : (profile : Profile) (r : PieceRow) → IsSpelled profile r → (q : Piece) → row_piece r ≡ Some q
+    → IsPieceWithin profile q
 row_within profile r s q e = subst (IsPieceWithin profile) (same_some (sym (ap row_piece s.1 ∙ read_back s.0) ∙ e)) s.2
 
 pub same_ok : {a b : Package} → ◌≡◌ {A = Result Package PieceRefusal} (Ok a) (Ok b) → a ≡ b
 same_ok e = cc
 
 module _ (profile : Profile) (moment : ℕ) (stamp : Text) (low : IsMoment moment) (is : IsStamp moment stamp) where
-  by_reason : (p next : Package) (number : ℕ) (q : Piece) (rest : Package → Result Package PieceRefusal) → Meets profile p → IsPieceWithin profile q
+  by_reason : (p next : Package) (number : ℕ) (q : Piece) (rest : Package → Result Package PieceRefusal)
+      → Meets profile p → IsPieceWithin profile q
       → ((p : Package) → Meets profile p → rest p ≡ Ok next → Meets profile next)
-      → (v : Option ℕ) → least (piece_reasons p q) ≡ v → after_trial (decided p number q stamp v) rest ≡ Ok next → Meets profile next
-  by_reason p next number q rest h within on None none f = on (piece_effect p q stamp) (piece_keeps q profile p moment stamp h within low is none) f
-  by_reason p next number q rest h within on (Some n) none f = absurd (let g : ◌≡◌ {A = Result Package PieceRefusal} (Err (number, n)) (Ok next) = f in cc)
+      → (v : Option ℕ) → least (piece_reasons p q) ≡ v → after_trial (decided p number q stamp v) rest ≡ Ok next
+      → Meets profile next
+  by_reason p next number q rest h within on None none f = on (piece_effect p q stamp)
+      (piece_keeps q profile p moment stamp h within low is none) f
+  by_reason p next number q rest h within on (Some n) none f =
+      absurd (let g : ◌≡◌ {A = Result Package PieceRefusal} (Err (number, n)) (Ok next) = f in cc)
 
   by_piece : (p next : Package) (number : ℕ) (rest : Package → Result Package PieceRefusal) → Meets profile p
       → ((p : Package) → Meets profile p → rest p ≡ Ok next → Meets profile next)
-      → (v : Option Piece) → ((q : Piece) → v ≡ Some q → IsPieceWithin profile q) → after_trial (piece_trial p number stamp v) rest ≡ Ok next
+      → (v : Option Piece) → ((q : Piece) → v ≡ Some q → IsPieceWithin profile q)
+      → after_trial (piece_trial p number stamp v) rest ≡ Ok next
       → Meets profile next
   by_piece p next number rest h on None within f = on p h f
-  by_piece p next number rest h on (Some q) within f = by_reason p next number q rest h (within q refl) on (least (piece_reasons p q)) refl f
+  by_piece p next number rest h on (Some q) within f = by_reason p next number q rest h (within q refl) on
+      (least (piece_reasons p q)) refl f
 
-  trial_keeps : (es : List (PieceKey × PieceRow)) → AllByRecursion (λ e. IsSpelled profile e.1) es → (next p : Package) → Meets profile p
+  trial_keeps : (es : List (PieceKey × PieceRow)) → AllByRecursion (λ e. IsSpelled profile e.1) es → (next p : Package)
+      → Meets profile p
       → trial es p stamp ≡ Ok next → Meets profile next
   trial_keeps [] spelled next p h e = subst (Meets profile) (same_ok e) h
   trial_keeps (e ∷ es) spelled next p h f =
-      by_piece p next (unsigned_abs e.0.number) (λ q. trial es q stamp) h (λ q. trial_keeps es spelled.1 next q) (row_piece e.1) (row_within profile e.1 spelled.0) f
+      by_piece p next (unsigned_abs e.0.number) (λ q. trial es q stamp) h (λ q. trial_keeps es spelled.1 next q)
+      (row_piece e.1) (row_within profile e.1 spelled.0) f
 
   -- the edition is published, and its pieces go
   closed_keeps : (edition : Text) → IsName edition → (p : Package) → Meets profile p → Meets profile (closed edition p)
@@ -95,20 +108,24 @@ module _ (profile : Profile) (moment : ℕ) (stamp : Text) (low : IsMoment momen
       with_editions profile p h _ _
       (each_put texts p.editions edition published_state (λ e _. IsName e) h.q4.of_editions named)
       (record {
-        states = each_put texts p.editions edition published_state (λ _ s. (s ≡ open_state) ⊎ (s ≡ published_state)) h.q15.states (inr refl);
-        numbered = λ e f. elim (after_put texts p.editions edition published_state e open_state f) as (λ _. (n : ℕ) × (n ≤ MostPieces) × IsNumbered (retain_keys p.pieces test) e n) [
-          | inl s ↦ absurd (differ published_state open_state refl s.1)
-          | inr n ↦ let was = h.q15.numbered e n.1 in (was.0, was.1, numbered_still p edition e was.0 n.0 was.2)
-        ];
+        states = each_put texts p.editions edition published_state (λ _ s. (s ≡ open_state) ⊎ (s ≡ published_state))
+            h.q15.states (inr refl);
+        numbered = λ e f. elim (after_put texts p.editions edition published_state e open_state f) as
+            (λ _. (n : ℕ) × (n ≤ MostPieces) × IsNumbered (retain_keys p.pieces test) e n) [
+              | inl s ↦ absurd (differ published_state open_state refl s.1)
+              | inr n ↦ let was = h.q15.numbered e n.1 in (was.0, was.1, numbered_still p edition e was.0 n.0 was.2)
+            ];
         of_open = λ k r e. let was = after_retain piece_keys p.pieces test k r e in
             beside_put texts p.editions edition published_state k.edition (other_tells edition k.edition was.0)
             ∙ h.q15.of_open k r was.1;
         spelled = each_retain piece_keys p.pieces test (λ _ r. IsSpelled profile r) h.q15.spelled;
       })
-      (each_put texts p.editions edition published_state EditionWithin h.q16.editions (named, ascii_is_clean published_state refl refl))
+      (each_put texts p.editions edition published_state EditionWithin h.q16.editions
+      (named, ascii_is_clean published_state refl refl))
       (each_retain piece_keys p.pieces test PieceWithin h.q16.pieces)
 
-  closed_by_keeps : (edition : Text) → IsName edition → (p : Package) → Meets profile p → (v : Result Package PieceRefusal)
+  closed_by_keeps : (edition : Text) → IsName edition → (p : Package) → Meets profile p
+      → (v : Result Package PieceRefusal)
       → edition_trial p edition stamp ≡ v → Meets profile (closed_by edition v p)
   closed_by_keeps edition named p h (Ok next) e =
       closed_keeps edition named next (trial_keeps (pieces_of p edition)
@@ -118,5 +135,6 @@ module _ (profile : Profile) (moment : ℕ) (stamp : Text) (low : IsMoment momen
       next p h e)
   closed_by_keeps edition named p h (Err r) e = h
 
-  pub publish : (edition : Text) → IsName edition → (p : Package) → Meets profile p → Meets profile (closed_by edition (edition_trial p edition stamp) p)
+  pub publish : (edition : Text) → IsName edition → (p : Package) → Meets profile p
+      → Meets profile (closed_by edition (edition_trial p edition stamp) p)
   publish edition named p h = closed_by_keeps edition named p h (edition_trial p edition stamp) refl

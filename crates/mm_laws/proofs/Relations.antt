@@ -17,7 +17,8 @@ use Rattle.mm_definitions.specs.declared.commands.Kind.TheVariants as kinds
 use Rattle.mm_definitions.specs.declared.commands.RelationName.{RelationName}
 use Rattle.mm_definitions.specs.declared.commands.RelationName.TheVariants as names
 use Rattle.mm_definitions.specs.declared.commands.Command.TheVariants as commands
-use Rattle.mm_definitions.proofs.Parts.{each_put, each_remove, each_retain, stands_after_put, after_put, after_remove, same_some}
+use Rattle.mm_definitions.proofs.Parts.{each_put, each_remove, each_retain, stands_after_put, after_put, after_remove}
+use Rattle.mm_definitions.proofs.Parts.{same_some}
 use Rattle.mm_definitions.proofs.Parts.{after_retain, kept, kept_by_new, at_put, beside_remove, either_false}
 use Rattle.mm_definitions.proofs.Parts.{not_none, none_of, some_of}
 use Rattle.mm_definitions.proofs.CleanTexts.{ascii_is_clean, name_is_clean}
@@ -45,7 +46,8 @@ relation_is_clean names.SimpleAttributes = ascii_is_clean (relation_text names.S
 
 -- ---- a relation
 suited_new : (kinds_of : Kinds) (base related : Text) (name : RelationName)
-    → has_kind kinds_of base kinds.Attributes || has_kind kinds_of base kinds.Media ≡ true → has_kind kinds_of related (related_kind name) ≡ true
+    → has_kind kinds_of base kinds.Attributes || has_kind kinds_of base kinds.Media ≡ true
+    → has_kind kinds_of related (related_kind name) ≡ true
     → IsSuited kinds_of (record { base = base; related = related; base_column = codes "id"; related_column = codes "id"; name = relation_text name })
 suited_new kinds_of base related name e f = record {
   base = elim (either_true (has_kind kinds_of base kinds.Attributes) (has_kind kinds_of base kinds.Media) e) as (λ _.
@@ -63,7 +65,8 @@ suited_new kinds_of base related name e f = record {
   named names.Media e = inl (refl, has_kind_tells kinds_of related kinds.Media e)
   named names.SimpleAttributes e = inr (refl, has_kind_tells kinds_of related kinds.Attributes e)
 
-pub relation_put : (mapping base related : Text) (name : RelationName) → Keeps (commands.Relation mapping base related name)
+pub relation_put : (mapping base related : Text) (name : RelationName)
+    → Keeps (commands.Relation mapping base related name)
 relation_put mapping base related name profile p moment stamp h within low is none =
     let r = none_holds (own_reasons p (commands.Relation mapping base related name)) none in
     let ends = either_false (not (contains_key p.contents base)) (not (contains_key p.contents related)) r.0 in
@@ -87,10 +90,12 @@ relation_put mapping base related name profile p moment stamp h within low is no
     with_relations profile p h _ _ _
     (each_put texts p.relations mapping relation (λ m _. IsName m × (get p.contents m ≡ None)) h.q4.of_mappings
     (within.0, none_of (get p.contents mapping) free.0))
-    (each_put texts p.relations mapping relation (λ _ s. IsSuited p.kinds s) h.q12 (suited_new p.kinds base related name kinds_suit.0 kinds_suit.1))
+    (each_put texts p.relations mapping relation (λ _ s. IsSuited p.kinds s) h.q12
+    (suited_new p.kinds base related name kinds_suit.0 kinds_suit.1))
     (λ k u e. joins_still p next still (get p.relations k.mapping) k refl (h.q13 k u e))
     (record {
-      only = each_put extension_keys p.extensions (mapping_extension mapping) 1 (λ e count. IsWanted p.kinds next e × (count ≡ 1))
+      only = each_put extension_keys p.extensions (mapping_extension mapping) 1
+          (λ e count. IsWanted p.kinds next e × (count ≡ 1))
           (λ e count f. (
             wanted_stays p next (stands_after_put texts p.relations mapping relation) e
                 (h.q14.only e count f).0,
@@ -121,23 +126,28 @@ relation_put mapping base related name profile p moment stamp h within low is no
     }))
     h.q16.pairings
   where
-    joins_still : (p : Package) (next : RelationsPart) → ((m : Text) (s : Relation) → Has p.relations m s → Has next m s)
-        → (v : Option Relation) (k : Pairing) → get p.relations k.mapping ≡ v → Joins p.rows p.media v k → Joins p.rows p.media (get next k.mapping) k
+    joins_still : (p : Package) (next : RelationsPart)
+        → ((m : Text) (s : Relation) → Has p.relations m s → Has next m s)
+        → (v : Option Relation) (k : Pairing) → get p.relations k.mapping ≡ v → Joins p.rows p.media v k
+        → Joins p.rows p.media (get next k.mapping) k
     joins_still p next still None k e j = absurd j
     joins_still p next still (Some s) k e j = subst (λ v. Joins p.rows p.media v k) (sym (still k.mapping s e)) j
 
-    wanted_stays : (p : Package) (next : RelationsPart) → ((m : Text) → Stands p.relations m → Stands next m) → (e : Extension)
+    wanted_stays : (p : Package) (next : RelationsPart) → ((m : Text) → Stands p.relations m → Stands next m)
+        → (e : Extension)
         → IsWanted p.kinds p.relations e → IsWanted p.kinds next e
     wanted_stays p next more e (inl a) = inl a
     wanted_stays p next more e (inr (inl m)) = inr (inl (m.0, more m.0 m.1, m.2))
     wanted_stays p next more e (inr (inr t)) = inr (inr t)
 
-    wanted_was : (p : Package) (mapping : Text) (relation : Relation) (e : Extension) → IsWanted p.kinds (insert p.relations mapping relation) e
+    wanted_was : (p : Package) (mapping : Text) (relation : Relation) (e : Extension)
+        → IsWanted p.kinds (insert p.relations mapping relation) e
         → (e ≡ mapping_extension mapping) ⊎ IsWanted p.kinds p.relations e
     wanted_was p mapping relation e (inl a) = inr (inl a)
     wanted_was p mapping relation e (inr (inl m)) =
         let s = some_of (get (insert p.relations mapping relation) m.0) m.1 in
-        elim (after_put texts p.relations mapping relation m.0 s.0 s.1) as (λ _. (e ≡ mapping_extension mapping) ⊎ IsWanted p.kinds p.relations e) [
+        elim (after_put texts p.relations mapping relation m.0 s.0 s.1) as
+        (λ _. (e ≡ mapping_extension mapping) ⊎ IsWanted p.kinds p.relations e) [
           | inl x ↦ inl (m.2 ∙ ap mapping_extension x.0)
           | inr x ↦ inr (inr (inl (m.0, ap is_some x.1, m.2)))
         ]
@@ -167,14 +177,21 @@ relation_drop mapping profile p moment stamp h within low is none =
     (each_remove texts p.relations mapping RelationWithin h.q16.relations)
     (each_retain pairing_keys p.pairings test PairingWithin h.q16.pairings)
   where
-    wanted_still : (p : Package) (mapping : Text) (e : Extension) → e ≢ mapping_extension mapping → IsWanted p.kinds p.relations e
+    wanted_still : (p : Package) (mapping : Text) (e : Extension) → e ≢ mapping_extension mapping
+        → IsWanted p.kinds p.relations e
         → IsWanted p.kinds (remove p.relations mapping) e
     wanted_still p mapping e n (inl a) = inl a
     wanted_still p mapping e n (inr (inl m)) = inr
-        (inl (m.0, ap is_some (beside_remove texts p.relations mapping m.0 (λ s. n (m.2 ∙ ap mapping_extension s))) ∙ m.1, m.2))
+        (inl (
+          m.0,
+          ap is_some (beside_remove texts p.relations mapping m.0 (λ s. n (m.2 ∙ ap mapping_extension s)))
+              ∙ m.1,
+          m.2,
+        ))
     wanted_still p mapping e n (inr (inr t)) = inr (inr t)
 
-    wanted_was : (p : Package) (mapping : Text) → IsName mapping → (e : Extension) → IsWanted p.kinds (remove p.relations mapping) e
+    wanted_was : (p : Package) (mapping : Text) → IsName mapping → (e : Extension)
+        → IsWanted p.kinds (remove p.relations mapping) e
         → (e ≢ mapping_extension mapping) × IsWanted p.kinds p.relations e
     wanted_was p mapping named e (inl a) = (λ s. not_general mapping named (sym a ∙ s), inl a)
     wanted_was p mapping named e (inr (inl m)) =
@@ -195,7 +212,8 @@ edition_put name profile p moment stamp h within low is none =
     with_editions profile p h _ _
     (each_put texts p.editions name open_state (λ e _. IsName e) h.q4.of_editions within)
     (record {
-      states = each_put texts p.editions name open_state (λ _ s. (s ≡ open_state) ⊎ (s ≡ published_state)) h.q15.states (inl refl);
+      states = each_put texts p.editions name open_state (λ _ s. (s ≡ open_state) ⊎ (s ≡ published_state)) h.q15.states
+          (inl refl);
       numbered = λ e f. elim (after_put texts p.editions name open_state e open_state f) as (λ _. (n : ℕ)
           × (n ≤ MostPieces) × IsNumbered p.pieces e n) [
             | inl s ↦ (
@@ -203,22 +221,26 @@ edition_put name profile p moment stamp h within low is none =
               zero-le,
               λ number. (
                 λ there. absurd
-                    (no_pieces p name free h.q15.of_open number (subst (λ t. Stands p.pieces (piece t number)) s.0 there)),
+                    (no_pieces p name free h.q15.of_open number
+                    (subst (λ t. Stands p.pieces (piece t number)) s.0 there)),
                 λ range. absurd (no_number number range.0 range.1),
               ),
             )
             | inr n ↦ h.q15.numbered e n.1
           ];
-      of_open = λ k r e. kept_by_new texts p.editions name open_state (missing p name free) k.edition open_state (h.q15.of_open k r e);
+      of_open = λ k r e. kept_by_new texts p.editions name open_state (missing p name free) k.edition open_state
+          (h.q15.of_open k r e);
       spelled = h.q15.spelled;
     })
-    (each_put texts p.editions name open_state EditionWithin h.q16.editions (within, ascii_is_clean open_state refl refl))
+    (each_put texts p.editions name open_state EditionWithin h.q16.editions
+    (within, ascii_is_clean open_state refl refl))
     h.q16.pieces
   where
     missing : (p : Package) (name : Text) → get p.editions name ≡ None → contains_key p.editions name ≡ false
     missing p name e = ap is_some e
 
-    no_pieces : (p : Package) (name : Text) → get p.editions name ≡ None → Each p.pieces (λ k _. Has p.editions k.edition open_state) → (number : ℤ)
+    no_pieces : (p : Package) (name : Text) → get p.editions name ≡ None
+        → Each p.pieces (λ k _. Has p.editions k.edition open_state) → (number : ℤ)
         → Stands p.pieces (piece name number) → ⊥
     no_pieces p name free opened number there = let r = some_of (get p.pieces (piece name number)) there in not_none
         (opened (piece name number) r.0 r.1) free
@@ -227,7 +249,8 @@ edition_put name profile p moment stamp h within low is none =
 pub numbered_still : (p : Package) (name edition : Text) (n : ℕ) → edition ≢ name → IsNumbered p.pieces edition n
     → IsNumbered (retain_keys p.pieces (λ k. is_other name k.edition)) edition n
 numbered_still p name edition n other h number =
-    let same = kept piece_keys p.pieces (λ k. is_other name k.edition) (piece edition number) (other_holds name edition other) in
+    let same = kept piece_keys p.pieces (λ k. is_other name k.edition) (piece edition number)
+    (other_holds name edition other) in
     (λ there. (h number).0 (sym (ap is_some same) ∙ there), λ range. ap is_some same ∙ (h number).1 range)
 
 -- ---- an edition's pieces go, and its state becomes another or none

@@ -1,5 +1,6 @@
 -- A package of millimetres that meets the rules meets them in micrometres.
-use Rattle.std.proofs.Common.{◌≡◌, ℤ, ◌*ℤ◌, ◌<ℤ◌, Option, Some, None, IfSome, is_some, option_map, refl, sym, ap, subst, ◌∙◌}
+use Rattle.std.proofs.Common.{◌≡◌, ℤ, ◌*ℤ◌, ◌<ℤ◌, Option, Some, None, IfSome, is_some, option_map, refl, sym, ap, subst}
+use Rattle.std.proofs.Common.{◌∙◌}
 use Rattle.std.specs.FinMap.{get}
 use Rattle.mm_definitions.specs.Bounds.{IsCoordinate, millimetres, micrometres}
 use Rattle.mm_definitions.specs.Keys.{Text, Level, level, text_cmp, level_cmp}
@@ -29,8 +30,17 @@ ordered None high h = tt
 ordered (Some a) None h = tt
 ordered (Some a) (Some b) h = units.less a b h
 
-unplaced : (c : Contents) (s : Option MatrixSet) → IsUnplaced c s → IsUnplaced (finer_contents c) (option_map finer_set s)
-unplaced c s (kind, a, b, d, e, system, set) = (kind, ap (option_map finer) a, ap (option_map finer) b, ap (option_map finer) d, ap (option_map finer) e, system, ap (option_map finer_set) set)
+unplaced : (c : Contents) (s : Option MatrixSet) → IsUnplaced c s
+    → IsUnplaced (finer_contents c) (option_map finer_set s)
+unplaced c s (kind, a, b, d, e, system, set) = (
+  kind,
+  ap (option_map finer) a,
+  ap (option_map finer) b,
+  ap (option_map finer) d,
+  ap (option_map finer) e,
+  system,
+  ap (option_map finer_set) set,
+)
 
 placed : (c : Contents) (s : Option MatrixSet) → IsPlaced c s → IsPlaced (finer_contents c) (option_map finer_set s)
 placed c None h = absurd h
@@ -43,7 +53,8 @@ placed c (Some s) h = record {
   max_y = ap (option_map finer) h.max_y;
 }
 
-suited : (kind : Kind) (c : Contents) (s : Option MatrixSet) → Suits kind c s → Suits kind (finer_contents c) (option_map finer_set s)
+suited : (kind : Kind) (c : Contents) (s : Option MatrixSet) → Suits kind c s
+    → Suits kind (finer_contents c) (option_map finer_set s)
 suited Two c s h = placed c s h
 suited Other c s h = placed c s h
 suited Attributes c s h = unplaced c s h
@@ -51,8 +62,10 @@ suited Media c s h = unplaced c s h
 
 fits : (b : Box) (g : Grid) → Fits b g → Fits (finer_box b) (finer_grid g)
 fits b g h = record {
-  across = units.apart b.max_x b.min_x ∙ ap finer h.across ∙ sym (units.times (g.matrix_width *ℤ g.tile_width) g.pixel_x_size);
-  down = units.apart b.max_y b.min_y ∙ ap finer h.down ∙ sym (units.times (g.matrix_height *ℤ g.tile_height) g.pixel_y_size);
+  across = units.apart b.max_x b.min_x ∙ ap finer h.across
+      ∙ sym (units.times (g.matrix_width *ℤ g.tile_width) g.pixel_x_size);
+  down = units.apart b.max_y b.min_y ∙ ap finer h.down
+      ∙ sym (units.times (g.matrix_height *ℤ g.tile_height) g.pixel_y_size);
 }
 
 fits_in : (s : Option MatrixSet) (g : Grid) → FitsIn s g → FitsIn (option_map finer_set s) (finer_grid g)
@@ -63,7 +76,8 @@ inside : (o : Option Grid) (column row : ℤ) → IsInside o column row → IsIn
 inside None column row h = absurd h
 inside (Some g) column row h = h
 
-contents_within : (table : Text) (c : Contents) → ContentsWithin millimetres table c → ContentsWithin micrometres table (finer_contents c)
+contents_within : (table : Text) (c : Contents) → ContentsWithin millimetres table c
+    → ContentsWithin micrometres table (finer_contents c)
 contents_within table c h = record {
   table = h.table;
   data_type = h.data_type;
@@ -102,7 +116,15 @@ matrix_within k g h = record {
 }
 
 matrix_measures : (m : Matrix) → IsMatrixWithin millimetres m → IsMatrixWithin micrometres m
-matrix_measures m h = record { mw = h.mw; mh = h.mh; tw = h.tw; th = h.th; px = units.wider m.px h.px; py = units.wider m.py h.py }
+matrix_measures m h = record {
+  mw = h.mw;
+  mh = h.mh;
+  tw = h.tw;
+  th = h.th;
+  px = units.wider m.px h.px;
+  py = units.wider
+      m.py h.py;
+}
 
 -- the fields of a staged piece keep their numbers, and the limits of micrometres are wider
 piece_within : (q : Piece) → IsPieceWithin millimetres q → IsPieceWithin micrometres q
@@ -147,29 +169,39 @@ module _ (p : Package) where
       of_contents = each_changed finer_contents p.contents
           (λ table c. IfSome c.system (MayName p.systems p.kinds table))
           (λ table c. IfSome c.system (MayName p.systems p.kinds table)) (λ table c same. same) h.q2.of_contents;
-      of_sets = each_changed finer_set p.sets (λ table s. MayName p.systems p.kinds table s.system) (λ table s. MayName p.systems p.kinds table s.system) (λ table s same. same) h.q2.of_sets;
+      of_sets = each_changed finer_set p.sets (λ table s. MayName p.systems p.kinds table s.system)
+          (λ table s. MayName p.systems p.kinds table s.system) (λ table s same. same) h.q2.of_sets;
     };
     q3 = λ table c e other d f same.
         let one = from finer_contents p.contents table c e in
         let two = from finer_contents p.contents other d f in
-        h.q3 table one.0 one.1 other two.0 two.1 (sym (ap (λ (x : Contents). x.identifier) one.2) ∙ same ∙ ap (λ (x : Contents). x.identifier) two.2);
+        h.q3 table one.0 one.1 other two.0 two.1 (sym (ap (λ (x : Contents). x.identifier) one.2) ∙ same
+        ∙ ap (λ (x : Contents). x.identifier) two.2);
     q4 = record {
       of_tables = λ table c e. let one = from finer_contents p.contents table c e in h.q4.of_tables table one.0 one.1;
-      of_mappings = λ mapping r e. let was = h.q4.of_mappings mapping r e in (was.0, contents_at mapping ∙ ap (option_map finer_contents) was.1);
+      of_mappings = λ mapping r e. let was = h.q4.of_mappings mapping r e in
+          (was.0, contents_at mapping ∙ ap (option_map finer_contents) was.1);
       of_editions = h.q4.of_editions;
     };
     q5 = record {
       registered = λ table c e.
           let one = from finer_contents p.contents table c e in
-          let was = h.q5.registered table one.0 one.1 in
-          (was.0, was.1, subst (Suits was.0 c) (sym (sets_at table)) (subst (λ x. Suits was.0 x (option_map finer_set (get p.sets table))) (sym one.2) (suited was.0 one.0 (get p.sets table) was.2)));
+          let was = h.q5.registered table one.0 one.1 in (
+            was.0,
+            was.1,
+            subst (Suits was.0 c) (sym (sets_at table))
+                (subst (λ x. Suits was.0 x (option_map finer_set (get p.sets table))) (sym one.2)
+                (suited was.0 one.0 (get p.sets table) was.2)),
+          );
       of_kinds = λ table kind e. still_stands table ∙ h.q5.of_kinds table kind e;
-      of_sets = λ table s e. let one = from finer_set p.sets table s e in still_stands table ∙ h.q5.of_sets table one.0 one.1;
+      of_sets = λ table s e. let one = from finer_set p.sets table s e in still_stands table
+          ∙ h.q5.of_sets table one.0 one.1;
     };
     q6 = record {
       of_sets = each_changed finer_set p.sets (λ _ s. (s.box.min_x <ℤ s.box.max_x) × (s.box.min_y <ℤ s.box.max_y))
           (λ _ s. (s.box.min_x <ℤ s.box.max_x) × (s.box.min_y <ℤ s.box.max_y))
-          (λ _ s both. (units.less s.box.min_x s.box.max_x both.0, units.less s.box.min_y s.box.max_y both.1)) h.q6.of_sets;
+          (λ _ s both. (units.less s.box.min_x s.box.max_x both.0, units.less s.box.min_y s.box.max_y both.1))
+          h.q6.of_sets;
       of_contents = each_changed finer_contents p.contents
           (λ _ c. IsOrdered c.min_x c.max_x × IsOrdered c.min_y c.max_y)
           (λ _ c. IsOrdered c.min_x c.max_x × IsOrdered c.min_y c.max_y)
@@ -177,8 +209,12 @@ module _ (p : Package) where
     };
     q7 = λ k g e.
         let one = from finer_grid p.matrices k g e in
-        let was = h.q7 k one.0 one.1 in
-        (was.0, subst (λ s. FitsIn s g) (sym (sets_at k.table)) (subst (FitsIn (option_map finer_set (get p.sets k.table))) (sym one.2) (fits_in (get p.sets k.table) one.0 was.1)));
+        let was = h.q7 k one.0 one.1 in (
+          was.0,
+          subst (λ s. FitsIn s g) (sym (sets_at k.table))
+              (subst (FitsIn (option_map finer_set (get p.sets k.table))) (sym one.2)
+              (fits_in (get p.sets k.table) one.0 was.1)),
+        );
     q8 = λ table low high g i e f up.
         let one = from finer_grid p.matrices (level table low) g e in
         let two = from finer_grid p.matrices (level table high) i f in
@@ -195,7 +231,8 @@ module _ (p : Package) where
           across = units.double one.0.pixel_x_size two.0.pixel_x_size was.across;
           down = units.double one.0.pixel_y_size two.0.pixel_y_size was.down;
         }));
-    q10 = λ k bytes e. subst (λ o. IsInside o k.column k.row) (sym (matrices_at (level k.table k.zoom))) (inside (get p.matrices (level k.table k.zoom)) k.column k.row (h.q10 k bytes e));
+    q10 = λ k bytes e. subst (λ o. IsInside o k.column k.row) (sym (matrices_at (level k.table k.zoom)))
+        (inside (get p.matrices (level k.table k.zoom)) k.column k.row (h.q10 k bytes e));
     q11 = h.q11;
     q12 = h.q12;
     q13 = h.q13;
@@ -204,14 +241,17 @@ module _ (p : Package) where
       states = h.q15.states;
       numbered = h.q15.numbered;
       of_open = h.q15.of_open;
-      spelled = λ k r e. let was = h.q15.spelled k r e in (was.0, was.1, piece_within was.0 was.2, piece_taken was.0 was.3);
+      spelled = λ k r e. let was = h.q15.spelled k r e in
+          (was.0, was.1, piece_within was.0 was.2, piece_taken was.0 was.3);
     };
     q16 = record {
       systems = h.q16.systems;
-      contents = each_changed finer_contents p.contents (ContentsWithin millimetres) (ContentsWithin micrometres) contents_within h.q16.contents;
+      contents = each_changed finer_contents p.contents (ContentsWithin millimetres) (ContentsWithin micrometres)
+          contents_within h.q16.contents;
       kinds = h.q16.kinds;
       sets = each_changed finer_set p.sets (SetWithin millimetres) (SetWithin micrometres) set_within h.q16.sets;
-      matrices = each_changed finer_grid p.matrices (MatrixWithin millimetres) (MatrixWithin micrometres) matrix_within h.q16.matrices;
+      matrices = each_changed finer_grid p.matrices (MatrixWithin millimetres) (MatrixWithin micrometres) matrix_within
+          h.q16.matrices;
       extensions = h.q16.extensions;
       tiles = h.q16.tiles;
       rows = h.q16.rows;

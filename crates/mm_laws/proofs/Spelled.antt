@@ -1,5 +1,6 @@
 -- The fields of a record spell one command at most, and nothing is against fields that spell one.
-use Rattle.std.proofs.Common.{◌≡◌, ◌∙◌, inl, inr, ℕ, zero, suc, ℤ, pos, List, [], ◌∷◌, Option, None, Some, refl, sym, ap, arith}
+use Rattle.std.proofs.Common.{◌≡◌, ◌∙◌, inl, inr, ℕ, zero, suc, ℤ, pos, List, [], ◌∷◌, Option, None, Some, refl, sym}
+use Rattle.std.proofs.Common.{ap, arith}
 use Rattle.std.specs.Prelude.{codes, bytes_eq, if◌then◌else◌, unsigned_abs}
 use Rattle.hex.specs.Hex.{decode_of}
 use Rattle.mm_definitions.specs.Keys.{Text}
@@ -19,7 +20,8 @@ use Rattle.mm_definitions.specs.declared.commands.RelationName.TheVariants as na
 use Rattle.mm_definitions.specs.declared.commands.Matrix.{Matrix}
 use Rattle.mm_definitions.specs.declared.commands.Piece.{Piece}
 use Rattle.mm_definitions.specs.declared.commands.Piece.TheVariants as pieces
-use Rattle.mm_definitions.specs.declared.commands.Piece.TheVariants.{Tile, TileDrop, Row, RowDrop, Media, MediaDrop, Map, MapDrop}
+use Rattle.mm_definitions.specs.declared.commands.Piece.TheVariants.{Tile, TileDrop, Row, RowDrop, Media, MediaDrop}
+use Rattle.mm_definitions.specs.declared.commands.Piece.TheVariants.{Map, MapDrop}
 use Rattle.mm_definitions.specs.declared.commands.Command.{Command}
 use Rattle.mm_definitions.specs.declared.commands.Command.TheVariants as commands
 use Rattle.mm_definitions.proofs.ReadingFacts.{spells_one, none_against, one_value}
@@ -57,7 +59,8 @@ values_one [] (t ∷ ts) vs ws h k = absurd h
 values_one (f ∷ fs) [] vs ws h k = absurd h
 values_one (f ∷ fs) (t ∷ ts) [] ws h k = absurd h
 values_one (f ∷ fs) (t ∷ ts) (v ∷ vs) [] h k = absurd k
-values_one (f ∷ fs) (t ∷ ts) (v ∷ vs) (w ∷ ws) h k = let a = holds_one f t v w h.0 k.0 in let b = values_one fs ts vs ws h.1 k.1 in cc
+values_one (f ∷ fs) (t ∷ ts) (v ∷ vs) (w ∷ ws) h k = let a = holds_one f t v w h.0 k.0 in let b =
+    values_one fs ts vs ws h.1 k.1 in cc
 
 met_one : (o : Option Form) (ts : List Text) (vs ws : List Value) → IsMet o ts vs → IsMet o ts ws → vs ≡ ws
 met_one None ts vs ws h k = absurd h
@@ -103,7 +106,15 @@ abbrev pub relation_of : Text → RelationName
 relation_of t = if bytes_eq t (codes "media") then names.Media else names.SimpleAttributes
 
 abbrev matrix_of : List Value → Matrix
-matrix_of vs = record { mw = count_of vs 2; mh = count_of vs 3; tw = count_of vs 4; th = count_of vs 5; px = number_of vs 6; py = number_of vs 7 }
+matrix_of vs = record {
+  mw = count_of vs 2;
+  mh = count_of vs 3;
+  tw = count_of vs 4;
+  th = count_of vs 5;
+  px = number_of
+      vs 6;
+  py = number_of vs 7;
+}
 
 abbrev pub piece_of : Text → List Value → Piece
 piece_of word vs =
@@ -170,29 +181,38 @@ command_back (commands.Publish edition) = refl
 command_back (commands.Rehearse edition) = refl
 
 -- ---- one command, and nothing against it
-pub one_command : (profile : Profile) (texts : List Text) (c d : Command) → Spells profile texts c → Spells profile texts d → c ≡ d
+pub one_command : (profile : Profile) (texts : List Text) (c d : Command) → Spells profile texts c
+    → Spells profile texts d → c ≡ d
 one_command profile [] c d h k = absurd h
 one_command profile (word ∷ ts) c d h k =
     let words : command_word c ≡ command_word d = sym h.0 ∙ k.0 in
-    let values : command_values c ≡ command_values d = met_one (record_form profile (word ∷ ts)) ts (command_values c) (command_values d) h.1 k.1 in
-    sym (command_back c) ∙ ap (λ w. command_of w (command_values c)) words ∙ ap (λ vs. command_of (command_word d) vs) values ∙ command_back d
+    let values : command_values c ≡ command_values d = met_one (record_form profile (word ∷ ts)) ts (command_values c)
+    (command_values d) h.1 k.1 in
+    sym (command_back c) ∙ ap (λ w. command_of w (command_values c)) words
+    ∙ ap (λ vs. command_of (command_word d) vs) values ∙ command_back d
 
-pub one_piece : (profile : Profile) (texts : List Text) (q r : Piece) → SpellsPiece profile texts q → SpellsPiece profile texts r → q ≡ r
+pub one_piece : (profile : Profile) (texts : List Text) (q r : Piece) → SpellsPiece profile texts q
+    → SpellsPiece profile texts r → q ≡ r
 one_piece profile [] q r h k = absurd h
 one_piece profile (word ∷ ts) q r h k =
     let words : piece_word q ≡ piece_word r = sym h.0 ∙ k.0 in
-    let values : piece_values q ≡ piece_values r = met_one (piece_form profile (word ∷ ts)) ts (piece_values q) (piece_values r) h.1 k.1 in
-    sym (piece_back q) ∙ ap (λ w. piece_of w (piece_values q)) words ∙ ap (λ vs. piece_of (piece_word r) vs) values ∙ piece_back r
+    let values : piece_values q ≡ piece_values r = met_one (piece_form profile (word ∷ ts)) ts (piece_values q)
+    (piece_values r) h.1 k.1 in
+    sym (piece_back q) ∙ ap (λ w. piece_of w (piece_values q)) words ∙ ap (λ vs. piece_of (piece_word r) vs) values
+    ∙ piece_back r
 
 not_unmet : (o : Option Form) (ts : List Text) (vs : List Value) (n : ℕ) → IsMet o ts vs → IsUnmet o ts n → ⊥
 not_unmet None ts vs n h a = h
 not_unmet (Some form) ts vs n h a = none_against form ts vs n h a
 
-pub none_against_command : (profile : Profile) (texts : List Text) (c : Command) (n : ℕ) → Spells profile texts c → HoldsAgainst profile texts n → ⊥
+pub none_against_command : (profile : Profile) (texts : List Text) (c : Command) (n : ℕ) → Spells profile texts c
+    → HoldsAgainst profile texts n → ⊥
 none_against_command profile [] c n h a = h
-none_against_command profile (word ∷ ts) c n h a = not_unmet (record_form profile (word ∷ ts)) ts (command_values c) n h.1 a
+none_against_command profile (word ∷ ts) c n h a = not_unmet (record_form profile (word ∷ ts)) ts (command_values c) n
+    h.1 a
 
-pub none_against_piece : (profile : Profile) (texts : List Text) (q : Piece) (n : ℕ) → SpellsPiece profile texts q → HoldsAgainstPiece profile texts n → ⊥
+pub none_against_piece : (profile : Profile) (texts : List Text) (q : Piece) (n : ℕ) → SpellsPiece profile texts q
+    → HoldsAgainstPiece profile texts n → ⊥
 none_against_piece profile [] q n h a = h
 none_against_piece profile (word ∷ ts) q n h a = not_unmet (piece_form profile (word ∷ ts)) ts (piece_values q) n h.1 a
 
@@ -226,6 +246,7 @@ pub command_number : (profile : Profile) (texts : List Text) (n : ℕ) → Holds
 command_number profile [] n a = inl a
 command_number profile (word ∷ ts) n a = unmet_number (record_form profile (word ∷ ts)) ts n a
 
-pub piece_number : (profile : Profile) (texts : List Text) (n : ℕ) → HoldsAgainstPiece profile texts n → IsReadingNumber n
+pub piece_number : (profile : Profile) (texts : List Text) (n : ℕ) → HoldsAgainstPiece profile texts n
+    → IsReadingNumber n
 piece_number profile [] n a = inl a
 piece_number profile (word ∷ ts) n a = unmet_number (piece_form profile (word ∷ ts)) ts n a

@@ -19,7 +19,13 @@ pub srs : (id : ℤ) (name organization : Text) (organization_id : ℤ) (definit
     → Keeps (Srs id name organization organization_id definition description)
 srs id name organization organization_id definition description profile p moment stamp h within low is none =
     let new = (none_holds (own_reasons p (Srs id name organization organization_id definition description)) none).0 in
-    let system : System = record { name = name; organization = organization; organization_id = organization_id; definition = definition; description = description } in
+    let system : System = record {
+      name = name;
+      organization = organization;
+      organization_id = organization_id;
+      definition = definition;
+      description = description;
+    } in
     let still = kept_by_new numbers p.systems id system new in
     let stands = stands_after_put numbers p.systems id system in
     record {
@@ -29,7 +35,8 @@ srs id name organization organization_id definition description profile p moment
         undefined_stands = still (pos 0) _ h.q1.undefined_stands;
       };
       q2 = record {
-        of_contents = λ q c e. if_some_more c.system (MayName p.systems p.kinds q) (MayName (insert p.systems id system) p.kinds q) (λ s m. (stands s m.0, m.1)) (h.q2.of_contents q c e);
+        of_contents = λ q c e. if_some_more c.system (MayName p.systems p.kinds q)
+            (MayName (insert p.systems id system) p.kinds q) (λ s m. (stands s m.0, m.1)) (h.q2.of_contents q c e);
         of_sets = λ q s e. (stands s.system (h.q2.of_sets q s e).0, (h.q2.of_sets q s e).1);
       };
       q3 = h.q3;

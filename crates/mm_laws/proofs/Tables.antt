@@ -6,7 +6,8 @@ use Rattle.std.specs.FinMap.{FinMap, get, contains_key, insert}
 use Rattle.std.proofs.lemmas.Bool.{not-false}
 use Rattle.mm_definitions.specs.Keys.{Text, text_cmp, same_text, same_number, level, Extension, extension_cmp}
 use Rattle.mm_definitions.specs.Parts.{Each, Has, Stands}
-use Rattle.mm_definitions.specs.Package.{Package, Contents, Box, MatrixSet, Kinds, kind_text, HasKind, IsPyramid, Relation, zoom_extension}
+use Rattle.mm_definitions.specs.Package.{Package, Contents, Box, MatrixSet, Kinds, kind_text, HasKind, IsPyramid}
+use Rattle.mm_definitions.specs.Package.{Relation, zoom_extension}
 use Rattle.mm_definitions.specs.Bounds.{Profile, IsName}
 use Rattle.mm_definitions.specs.Rules.{Meets, MayName, IsHalved, IsUnplaced, IsPlaced, IsPlacedAt, IsOrdered, Suits}
 use Rattle.mm_definitions.specs.Rules.{FitsIn, IsSuited, IsWanted, ExactExtensions, DistinctIdentifiers}
@@ -55,7 +56,8 @@ module _ (profile : Profile) (p : Package) (h : Meets profile p) (table : Text) 
   no_set s e = lacks p.contents table free (h.q5.of_sets table s e)
 
   absent : {X : Type 0} (m : FinMap text_cmp X) → ((x : X) → Has m table x → ⊥) → contains_key m table ≡ false
-  absent m none = elim (get m table) as (λ v. get m table ≡ v → is_some v ≡ false) [ None ↦ λ e. refl | Some x ↦ λ e. absurd (none x e) ] refl
+  absent m none = elim (get m table) as (λ v. get m table ≡ v → is_some v ≡ false)
+      [ None ↦ λ e. refl | Some x ↦ λ e. absurd (none x e) ] refl
 
   kind_free : contains_key p.kinds table ≡ false
   kind_free = absent p.kinds no_kind
@@ -66,16 +68,19 @@ module _ (profile : Profile) (p : Package) (h : Meets profile p) (table : Text) 
   kind_stays : (t : Text) (k : Kind) → HasKind p.kinds t k → HasKind next_kinds t k
   kind_stays t k e = kept_by_new texts p.kinds table (kind_text kind) kind_free t (kind_text k) e
 
-  kind_was : (t : Text) (k : Kind) → HasKind next_kinds t k → ((t ≡ table) × (kind_text kind ≡ kind_text k)) ⊎ HasKind p.kinds t k
+  kind_was : (t : Text) (k : Kind) → HasKind next_kinds t k → ((t ≡ table) × (kind_text kind ≡ kind_text k))
+      ⊎ HasKind p.kinds t k
   kind_was t k e = elim (after_put texts p.kinds table (kind_text kind) t (kind_text k) e) as (λ _.
       ((t ≡ table) × (kind_text kind ≡ kind_text k)) ⊎ HasKind p.kinds t k) [ inl s ↦ inl s | inr n ↦ inr n.1 ]
 
   pyramid_stays : (t : Text) → IsPyramid p.kinds t → IsPyramid next_kinds t
-  pyramid_stays t e = elim e as (λ _. IsPyramid next_kinds t) [ inl a ↦ inl (kind_stays t kinds.Two a) | inr b ↦ inr (kind_stays t kinds.Other b) ]
+  pyramid_stays t e = elim e as (λ _. IsPyramid next_kinds t)
+      [ inl a ↦ inl (kind_stays t kinds.Two a) | inr b ↦ inr (kind_stays t kinds.Other b) ]
 
   -- no pyramid of before is the table
   elsewhere : (t : Text) → IsPyramid p.kinds t → t ≢ table
-  elsewhere t e same = elim e as (λ _. ⊥) [ inl a ↦ no_kind _ (ap (get p.kinds) (sym same) ∙ a) | inr b ↦ no_kind _ (ap (get p.kinds) (sym same) ∙ b) ]
+  elsewhere t e same = elim e as (λ _. ⊥)
+      [ inl a ↦ no_kind _ (ap (get p.kinds) (sym same) ∙ a) | inr b ↦ no_kind _ (ap (get p.kinds) (sym same) ∙ b) ]
 
   -- a table of before may name the systems that it did
   pub may_still : (t : Text) (s : ℤ) → t ≢ table → MayName p.systems p.kinds t s → MayName p.systems next_kinds t s
@@ -110,7 +115,9 @@ module _ (profile : Profile) (p : Package) (h : Meets profile p) (table : Text) 
 
   no_table : (mapping : Text) (r : Relation) → Has p.relations mapping r → get next_contents mapping ≡ None
   no_table mapping r e =
-      beside_put texts p.contents table row mapping (λ s. let f : true ≡ false = sym (ap is_some (ap (get p.relations) (sym s) ∙ e)) ∙ no_mapping in cc) ∙ (h.q4.of_mappings mapping r e).1
+      beside_put texts p.contents table row mapping
+      (λ s. let f : true ≡ false = sym (ap is_some (ap (get p.relations) (sym s) ∙ e)) ∙ no_mapping in cc)
+      ∙ (h.q4.of_mappings mapping r e).1
 
   contents_stay : (t : Text) → Stands p.contents t → Stands next_contents t
   contents_stay = stands_after_put texts p.contents table row
@@ -138,25 +145,31 @@ module _ (profile : Profile) (p : Package) (h : Meets profile p) (table : Text) 
       → ((kind_text kind ≡ kind_text kinds.Other) × (e ≡ zoom_extension table)) ⊎ IsWanted p.kinds p.relations e
   wanted_was e (inl a) = inr (inl a)
   wanted_was e (inr (inl m)) = inr (inr (inl m))
-  wanted_was e (inr (inr t)) = elim (kind_was t.0 kinds.Other t.1) as (λ _. ((kind_text kind ≡ kind_text kinds.Other) × (e ≡ zoom_extension table)) ⊎ IsWanted p.kinds p.relations e) [
-    | inl s ↦ inl (s.1, t.2 ∙ ap zoom_extension s.0)
-    | inr b ↦ inr (inr (inr (t.0, b, t.2)))
-  ]
+  wanted_was e (inr (inr t)) = elim (kind_was t.0 kinds.Other t.1) as
+      (λ _. ((kind_text kind ≡ kind_text kinds.Other) × (e ≡ zoom_extension table)) ⊎ IsWanted p.kinds p.relations e) [
+        | inl s ↦ inl (s.1, t.2 ∙ ap zoom_extension s.0)
+        | inr b ↦ inr (inr (inr (t.0, b, t.2)))
+      ]
 
   -- the extension rows, where the table's kind wants none
   pub plain_extensions : kind_text kind ≢ kind_text kinds.Other → ExactExtensions next_kinds p.relations p.extensions
   plain_extensions n = record {
     only = λ e count f. (wanted_stays e (h.q14.only e count f).0, (h.q14.only e count f).1);
-    all = λ e w. elim (wanted_was e w) as (λ _. Has p.extensions e 1) [ inl s ↦ absurd (n s.0) | inr b ↦ h.q14.all e b ];
+    all = λ e w. elim (wanted_was e w) as (λ _. Has p.extensions e 1)
+        [ inl s ↦ absurd (n s.0) | inr b ↦ h.q14.all e b ];
   }
 
   -- and where it wants one
-  pub other_extensions : kind_text kind ≡ kind_text kinds.Other → ExactExtensions next_kinds p.relations (insert p.extensions (zoom_extension table) 1)
+  pub other_extensions : kind_text kind ≡ kind_text kinds.Other
+      → ExactExtensions next_kinds p.relations (insert p.extensions (zoom_extension table) 1)
   other_extensions same = record {
-    only = each_put extension_keys p.extensions (zoom_extension table) 1 (λ e count. IsWanted next_kinds p.relations e × (count ≡ 1))
+    only = each_put extension_keys p.extensions (zoom_extension table) 1 (λ e count. IsWanted next_kinds p.relations e
+        × (count ≡ 1))
         (λ e count f. (wanted_stays e (h.q14.only e count f).0, (h.q14.only e count f).1))
         (inr (inr (table, at_put texts p.kinds table (kind_text kind) ∙ ap Some same, refl)), refl);
-    all = λ e w. put_once p.extensions (zoom_extension table) e (elim (wanted_was e w) as (λ _. (e ≡ zoom_extension table) ⊎ Has p.extensions e 1) [ inl s ↦ inl s.1 | inr b ↦ inr (h.q14.all e b) ]);
+    all = λ e w. put_once p.extensions (zoom_extension table) e
+        (elim (wanted_was e w) as (λ _. (e ≡ zoom_extension table) ⊎ Has p.extensions e 1)
+        [ inl s ↦ inl s.1 | inr b ↦ inr (h.q14.all e b) ]);
   }
 
   -- what is to be shown of the new table itself
@@ -174,15 +187,24 @@ module _ (profile : Profile) (p : Package) (h : Meets profile p) (table : Text) 
     pub extension_limits : Each extensions ExtensionWithin
     pub exact : ExactExtensions next_kinds p.relations extensions
 
-  pub keeps_with : (next_sets : FinMap text_cmp MatrixSet) (next_extensions : FinMap extension_cmp ℕ) → Suited next_sets next_extensions
-      → Meets profile (record p { contents = next_contents; kinds = next_kinds; sets = next_sets; extensions = next_extensions })
+  pub keeps_with : (next_sets : FinMap text_cmp MatrixSet) (next_extensions : FinMap extension_cmp ℕ)
+      → Suited next_sets next_extensions
+      → Meets profile (record p {
+        contents = next_contents;
+        kinds = next_kinds;
+        sets = next_sets;
+        extensions = next_extensions;
+      })
   keeps_with next_sets next_extensions s = record {
     q1 = h.q1;
     q2 = record {
-      of_contents = λ t c e. elim (after_put texts p.contents table row t c e) as (λ _. IfSome c.system (MayName p.systems next_kinds t)) [
-        | inl a ↦ subst (λ d. IfSome d.system (MayName p.systems next_kinds t)) a.1 (subst (λ u. IfSome row.system (MayName p.systems next_kinds u)) (sym a.0) s.system)
-        | inr b ↦ if_some_more c.system (MayName p.systems p.kinds t) (MayName p.systems next_kinds t) (λ n. may_still t n b.0) (h.q2.of_contents t c b.1)
-      ];
+      of_contents = λ t c e. elim (after_put texts p.contents table row t c e) as
+          (λ _. IfSome c.system (MayName p.systems next_kinds t)) [
+            | inl a ↦ subst (λ d. IfSome d.system (MayName p.systems next_kinds t)) a.1
+                (subst (λ u. IfSome row.system (MayName p.systems next_kinds u)) (sym a.0) s.system)
+            | inr b ↦ if_some_more c.system (MayName p.systems p.kinds t) (MayName p.systems next_kinds t)
+                (λ n. may_still t n b.0) (h.q2.of_contents t c b.1)
+          ];
       of_sets = s.set_systems;
     };
     q3 = distinct;
@@ -192,26 +214,39 @@ module _ (profile : Profile) (p : Package) (h : Meets profile p) (table : Text) 
       of_editions = h.q4.of_editions;
     };
     q5 = record {
-      registered = λ t c e. elim (after_put texts p.contents table row t c e) as (λ _. (k : Kind) × HasKind next_kinds t k × Suits k c (get next_sets t)) [
-        | inl a ↦ (
-          kind,
-          ap (get next_kinds) a.0 ∙ at_put texts p.kinds table (kind_text kind),
-          subst (λ c. Suits kind c (get next_sets t)) a.1 (subst (λ u. Suits kind row (get next_sets u)) (sym a.0) s.suits),
-        )
-        | inr b ↦ let r = h.q5.registered t c b.1 in (r.0, kind_stays t r.0 r.1, subst (λ v. Suits r.0 c v) (sym (s.beside t b.0)) r.2)
-      ];
-      of_kinds = each_put texts p.kinds table (kind_text kind) (λ t _. Stands next_contents t) (λ t k e. contents_stay t (h.q5.of_kinds t k e)) (ap is_some (at_put texts p.contents table row));
+      registered = λ t c e. elim (after_put texts p.contents table row t c e) as
+          (λ _. (k : Kind) × HasKind next_kinds t k × Suits k c (get next_sets t)) [
+            | inl a ↦ (
+              kind,
+              ap (get next_kinds) a.0 ∙ at_put texts p.kinds table (kind_text kind),
+              subst (λ c. Suits kind c (get next_sets t)) a.1
+                  (subst (λ u. Suits kind row (get next_sets u)) (sym a.0) s.suits),
+            )
+            | inr b ↦ let r = h.q5.registered t c b.1 in
+                (r.0, kind_stays t r.0 r.1, subst (λ v. Suits r.0 c v) (sym (s.beside t b.0)) r.2)
+          ];
+      of_kinds = each_put texts p.kinds table (kind_text kind) (λ t _. Stands next_contents t)
+          (λ t k e. contents_stay t (h.q5.of_kinds t k e)) (ap is_some (at_put texts p.contents table row));
       of_sets = s.set_tables;
     };
-    q6 = record { of_sets = s.set_extents; of_contents = each_put texts p.contents table row (λ _ c. IsOrdered c.min_x c.max_x × IsOrdered c.min_y c.max_y) h.q6.of_contents s.ordered };
-    q7 = λ k g e. let old = h.q7 k g e in (pyramid_stays k.table old.0, subst (λ v. FitsIn v g) (sym (s.beside k.table (elsewhere k.table old.0))) old.1);
+    q6 = record {
+      of_sets = s.set_extents;
+      of_contents = each_put texts p.contents table row
+          (λ _ c. IsOrdered c.min_x c.max_x × IsOrdered c.min_y c.max_y) h.q6.of_contents s.ordered;
+    };
+    q7 = λ k g e. let old = h.q7 k g e in
+        (pyramid_stays k.table old.0, subst (λ v. FitsIn v g) (sym (s.beside k.table (elsewhere k.table old.0))) old.1);
     q8 = h.q8;
     q9 = λ t zoom a b two e f. elim (kind_was t kinds.Two two) as (λ _. IsHalved a b) [
       | inl x ↦ absurd (elsewhere t (h.q7 (level t zoom) a e).0 x.0)
       | inr y ↦ h.q9 t zoom a b y e f
     ];
     q10 = h.q10;
-    q11 = record { of_rows = λ k x e. kind_stays k.table kinds.Attributes (h.q11.of_rows k x e); of_media = λ k x e. kind_stays k.table kinds.Media (h.q11.of_media k x e) };
+    q11 = record {
+      of_rows = λ k x e. kind_stays k.table kinds.Attributes (h.q11.of_rows k x e);
+      of_media = λ k x e.
+          kind_stays k.table kinds.Media (h.q11.of_media k x e);
+    };
     q12 = λ m r e. suited_stays r (h.q12 m r e);
     q13 = h.q13;
     q14 = s.exact;
@@ -238,7 +273,8 @@ pub less : (a b : ℤ) → int_le b a ≡ false → a <ℤ b
 less a b e = grind (arith, ints)
 
 not_number : (a b : ℤ) → same_number a b ≡ false → a ≢ b
-not_number a b f e = let t : same_number a b ≡ true = ap (same_number a) (sym e) ∙ same_itself numbers a in let g : true ≡ false = sym t ∙ f in cc
+not_number a b f e = let t : same_number a b ≡ true = ap (same_number a) (sym e)
+    ∙ same_itself numbers a in let g : true ≡ false = sym t ∙ f in cc
 
 pub table_put : (table : Text) (kind : PlainKind) (identifier : Text) → Keeps (commands.Table table kind identifier)
 table_put table kind identifier profile p moment stamp h within low is none =
@@ -255,7 +291,8 @@ table_put table kind identifier profile p moment stamp h within low is none =
       max_y = None;
       system = None;
     } in
-    let absent : get p.sets table ≡ None = none_of (get p.sets table) (set_free profile p h table row (plain_kind kind) taken.0 taken.1 r.1.0) in
+    let absent : get p.sets table ≡ None = none_of (get p.sets table)
+    (set_free profile p h table row (plain_kind kind) taken.0 taken.1 r.1.0) in
     keeps_with profile p h table row (plain_kind kind) taken.0 taken.1 r.1.0 p.sets p.extensions (record {
       name = within.0;
       suits = unplaced kind row (get p.sets table) (refl, refl, refl, refl, refl, refl, absent);
@@ -315,14 +352,19 @@ pyramid_put table identifier srs min_x min_y max_x max_y step profile p moment s
     } in
     let set : MatrixSet = record { system = srs; box = box } in
     let sets = insert p.sets table set in
-    let may : MayName p.systems (insert p.kinds table (kind_text (step_kind step))) table srs =
-    (not-false (contains_key p.systems srs) r.0, λ _. (not_number srs (pos 0) plane.0, not_number srs (pos 4326) plane.1)) in
+    let may : MayName p.systems (insert p.kinds table (kind_text (step_kind step))) table srs = (
+      not-false (contains_key p.systems srs) r.0,
+      λ _.
+          (not_number srs (pos 0) plane.0, not_number srs (pos 4326) plane.1),
+    ) in
     let suits : (kind : Step) → Suits (step_kind kind) row (get sets table) =
     placed row set (get sets table) (at_put texts p.sets table set)
     (record { data_type = refl; system = refl; min_x = refl; min_y = refl; max_x = refl; max_y = refl }) in
-    let suited : (extensions : FinMap extension_cmp ℕ) → ExactExtensions (insert p.kinds table (kind_text (step_kind step))) p.relations extensions
+    let suited : (extensions : FinMap extension_cmp ℕ)
+    → ExactExtensions (insert p.kinds table (kind_text (step_kind step))) p.relations extensions
     → Each extensions ExtensionWithin
-    → Suited profile p h table row (step_kind step) taken.0 taken.1 named sets extensions = λ extensions exact limits. record {
+    → Suited profile p h table row (step_kind step) taken.0 taken.1 named sets extensions = λ extensions exact limits.
+    record {
       name = within.0;
       suits = suits step;
       system = may;
@@ -342,12 +384,14 @@ pyramid_put table identifier srs min_x min_y max_x max_y step profile p moment s
         system = within.2;
       };
       beside = λ t n. beside_put texts p.sets table set t n;
-      set_systems = each_put texts p.sets table set (λ t s. MayName p.systems (insert p.kinds table (kind_text (step_kind step))) t s.system)
+      set_systems = each_put texts p.sets table set
+          (λ t s. MayName p.systems (insert p.kinds table (kind_text (step_kind step))) t s.system)
           (set_may_still profile p h table row (step_kind step) taken.0 taken.1 named) may;
       set_tables = each_put texts p.sets table set (λ t _. Stands (insert p.contents table row) t)
           (λ t s e. stands_after_put texts p.contents table row t (h.q5.of_sets t s e))
           (ap is_some (at_put texts p.contents table row));
-      set_extents = each_put texts p.sets table set (λ _ s. (s.box.min_x <ℤ s.box.max_x) × (s.box.min_y <ℤ s.box.max_y)) h.q6.of_sets (less min_x max_x extent.0, less min_y max_y extent.1);
+      set_extents = each_put texts p.sets table set (λ _ s. (s.box.min_x <ℤ s.box.max_x) × (s.box.min_y <ℤ s.box.max_y))
+          h.q6.of_sets (less min_x max_x extent.0, less min_y max_y extent.1);
       set_limits = each_put texts p.sets table set (SetWithin profile) h.q16.sets
           (record {
             table = within.0;
@@ -362,8 +406,10 @@ pyramid_put table identifier srs min_x min_y max_x max_y step profile p moment s
     (λ e. keeps_with profile p h table row (step_kind step) taken.0 taken.1 named sets p.extensions
     (suited p.extensions (plain_extensions profile p h table row (step_kind step) taken.0 taken.1 named
     (is_two step e)) h.q16.extensions))
-    (λ e. keeps_with profile p h table row (step_kind step) taken.0 taken.1 named sets (insert p.extensions (zoom_extension table) 1)
-    (suited (insert p.extensions (zoom_extension table) 1) (other_extensions profile p h table row (step_kind step) taken.0 taken.1 named (is_other step e))
+    (λ e. keeps_with profile p h table row (step_kind step) taken.0 taken.1 named sets
+    (insert p.extensions (zoom_extension table) 1)
+    (suited (insert p.extensions (zoom_extension table) 1)
+    (other_extensions profile p h table row (step_kind step) taken.0 taken.1 named (is_other step e))
     (each_put extension_keys p.extensions (zoom_extension table) 1 ExtensionWithin h.q16.extensions (record {
       table = name_is_clean table within.0;
       column = ascii_is_clean (codes "tile_data") refl refl;
@@ -372,7 +418,8 @@ pyramid_put table identifier srs min_x min_y max_x max_y step profile p moment s
       scope = ascii_is_clean (zoom_extension table).scope refl refl;
     }))))
   where
-    placed : (c : Contents) (s : MatrixSet) (v : Option MatrixSet) → v ≡ Some s → IsPlacedAt c s → (kind : Step) → Suits (step_kind kind) c v
+    placed : (c : Contents) (s : MatrixSet) (v : Option MatrixSet) → v ≡ Some s → IsPlacedAt c s → (kind : Step)
+        → Suits (step_kind kind) c v
     placed c s v e at steps.Two = subst (λ w. IsPlaced c w) (sym e) at
     placed c s v e at steps.Other = subst (λ w. IsPlaced c w) (sym e) at
 

@@ -19,60 +19,88 @@ touched contents table row stamp = insert contents table (changed_at stamp row)
 
 still_placed : (c : Contents) (stamp : Text) (s : Option MatrixSet) → IsPlaced c s → IsPlaced (changed_at stamp c) s
 still_placed c stamp None h = absurd h
-still_placed c stamp (Some s) h = record { data_type = h.data_type; system = h.system; min_x = h.min_x; min_y = h.min_y; max_x = h.max_x; max_y = h.max_y }
+still_placed c stamp (Some s) h =
+    record {
+      data_type = h.data_type;
+      system = h.system;
+      min_x = h.min_x;
+      min_y = h.min_y;
+      max_x = h.max_x;
+      max_y = h.max_y;
+    }
 
-still_suits : (kind : Kind) (c : Contents) (stamp : Text) (s : Option MatrixSet) → Suits kind c s → Suits kind (changed_at stamp c) s
+still_suits : (kind : Kind) (c : Contents) (stamp : Text) (s : Option MatrixSet) → Suits kind c s
+    → Suits kind (changed_at stamp c) s
 still_suits Two c stamp s h = still_placed c stamp s h
 still_suits Other c stamp s h = still_placed c stamp s h
 still_suits Attributes c stamp s h = h
 still_suits Media c stamp s h = h
 
-module _ (contents : ContentsPart) (table : Text) (row : Contents) (was : get contents table ≡ Some row) (stamp : Text) where
-  -- an entry after the change is one from before, changed or as it was
-  from_before : (q : Text) (c : Contents) → get (touched contents table row stamp) q ≡ Some c
-      → (b : Contents) × (get contents q ≡ Some b) × (c.identifier ≡ b.identifier)
-  from_before q c e = elim (after_put texts contents table (changed_at stamp row) q c e) as (λ _. (b : Contents) × (get contents q ≡ Some b) × (c.identifier ≡ b.identifier)) [
-    | inl s ↦ (row, ap (get contents) s.0 ∙ was, ap (λ (d : Contents). d.identifier) (sym s.1))
-    | inr n ↦ (c, n.1, refl)
-  ]
+module _ (contents : ContentsPart) (table : Text) (row : Contents) (was : get contents table ≡ Some row) (stamp : Text)
+  where
+    -- an entry after the change is one from before, changed or as it was
+    from_before : (q : Text) (c : Contents) → get (touched contents table row stamp) q ≡ Some c
+        → (b : Contents) × (get contents q ≡ Some b) × (c.identifier ≡ b.identifier)
+    from_before q c e = elim (after_put texts contents table (changed_at stamp row) q c e) as
+        (λ _. (b : Contents) × (get contents q ≡ Some b) × (c.identifier ≡ b.identifier)) [
+          | inl s ↦ (row, ap (get contents) s.0 ∙ was, ap (λ (d : Contents). d.identifier) (sym s.1))
+          | inr n ↦ (c, n.1, refl)
+        ]
 
-  -- what holds of each row and doesn't look at last_change still holds
-  each_touched : (P : Text → Contents → Type 0) → ((q : Text) (b : Contents) → P q b → P q (changed_at stamp b)) → Each contents P
-      → Each (touched contents table row stamp) P
-  each_touched P same h = each_put texts contents table (changed_at stamp row) P h (same table row (h table row was))
+    -- what holds of each row and doesn't look at last_change still holds
+    each_touched : (P : Text → Contents → Type 0) → ((q : Text) (b : Contents) → P q b → P q (changed_at stamp b))
+        → Each contents P
+        → Each (touched contents table row stamp) P
+    each_touched P same h = each_put texts contents table (changed_at stamp row) P h (same table row (h table row was))
 
-  still_absent : (q : Text) → get contents q ≡ None → get (touched contents table row stamp) q ≡ None
-  still_absent q none = beside_put texts contents table (changed_at stamp row) q (λ e. not_none was (sym (ap (get contents) e) ∙ none)) ∙ none
+    still_absent : (q : Text) → get contents q ≡ None → get (touched contents table row stamp) q ≡ None
+    still_absent q none = beside_put texts contents table (changed_at stamp row) q
+        (λ e. not_none was (sym (ap (get contents) e) ∙ none)) ∙ none
 
-  still_stands : (q : Text) → Stands contents q → Stands (touched contents table row stamp) q
-  still_stands = stands_after_put texts contents table (changed_at stamp row)
+    still_stands : (q : Text) → Stands contents q → Stands (touched contents table row stamp) q
+    still_stands = stands_after_put texts contents table (changed_at stamp row)
 
-  distinct : DistinctIdentifiers contents → DistinctIdentifiers (touched contents table row stamp)
-  distinct h q c e r d f same =
-      let first = from_before q c e in
-      let second = from_before r d f in
-      h q first.0 first.1 r second.0 second.1 (sym first.2 ∙ same ∙ second.2)
+    distinct : DistinctIdentifiers contents → DistinctIdentifiers (touched contents table row stamp)
+    distinct h q c e r d f same =
+        let first = from_before q c e in
+        let second = from_before r d f in
+        h q first.0 first.1 r second.0 second.1 (sym first.2 ∙ same ∙ second.2)
 
-touched_row_keeps : (profile : Profile) (p : Package) (table stamp : Text) (moment : ℕ) → IsMoment moment → IsStamp moment stamp
-    → (row : Option Contents) → get p.contents table ≡ row → Meets profile p → Meets profile (touched_row p table stamp row)
+touched_row_keeps : (profile : Profile) (p : Package) (table stamp : Text) (moment : ℕ) → IsMoment moment
+    → IsStamp moment stamp
+    → (row : Option Contents) → get p.contents table ≡ row → Meets profile p
+    → Meets profile (touched_row p table stamp row)
 touched_row_keeps profile p table stamp moment low is None was h = h
 touched_row_keeps profile p table stamp moment low is (Some row) was h =
     let each = each_touched p.contents table row was stamp in
     record {
       q1 = h.q1;
-      q2 = record { of_contents = each (λ t c. IfSome c.system (MayName p.systems p.kinds t)) (λ _ _ x. x) h.q2.of_contents; of_sets = h.q2.of_sets };
+      q2 = record {
+        of_contents = each (λ t c. IfSome c.system (MayName p.systems p.kinds t)) (λ _ _ x. x)
+            h.q2.of_contents;
+        of_sets = h.q2.of_sets;
+      };
       q3 = distinct p.contents table row was stamp h.q3;
       q4 = record {
         of_tables = each (λ q _. IsName q) (λ _ _ x. x) h.q4.of_tables;
-        of_mappings = λ q r e. ((h.q4.of_mappings q r e).0, still_absent p.contents table row was stamp q (h.q4.of_mappings q r e).1);
+        of_mappings = λ q r e. (
+          (h.q4.of_mappings q r e).0,
+          still_absent p.contents table row was stamp q
+              (h.q4.of_mappings q r e).1,
+        );
         of_editions = h.q4.of_editions;
       };
       q5 = record {
-        registered = each (λ q c. (kind : Kind) × HasKind p.kinds q kind × Suits kind c (get p.sets q)) (λ q b x. (x.0, x.1, still_suits x.0 b stamp (get p.sets q) x.2)) h.q5.registered;
+        registered = each (λ q c. (kind : Kind) × HasKind p.kinds q kind × Suits kind c (get p.sets q))
+            (λ q b x. (x.0, x.1, still_suits x.0 b stamp (get p.sets q) x.2)) h.q5.registered;
         of_kinds = λ q k e. still_stands p.contents table row was stamp q (h.q5.of_kinds q k e);
         of_sets = λ q k e. still_stands p.contents table row was stamp q (h.q5.of_sets q k e);
       };
-      q6 = record { of_sets = h.q6.of_sets; of_contents = each (λ _ c. IsOrdered c.min_x c.max_x × IsOrdered c.min_y c.max_y) (λ _ _ x. x) h.q6.of_contents };
+      q6 = record {
+        of_sets = h.q6.of_sets;
+        of_contents = each
+            (λ _ c. IsOrdered c.min_x c.max_x × IsOrdered c.min_y c.max_y) (λ _ _ x. x) h.q6.of_contents;
+      };
       q7 = h.q7;
       q8 = h.q8;
       q9 = h.q9;
@@ -111,6 +139,8 @@ touched_row_keeps profile p table stamp moment low is (Some row) was h =
     }
 
 -- a change of one table's last_change keeps all the rules
-pub touch_keeps : (profile : Profile) (p : Package) (table stamp : Text) (moment : ℕ) → IsMoment moment → IsStamp moment stamp → Meets profile p
+pub touch_keeps : (profile : Profile) (p : Package) (table stamp : Text) (moment : ℕ) → IsMoment moment
+    → IsStamp moment stamp → Meets profile p
     → Meets profile (touch p table stamp)
-touch_keeps profile p table stamp moment low is h = touched_row_keeps profile p table stamp moment low is (get p.contents table) refl h
+touch_keeps profile p table stamp moment low is h = touched_row_keeps profile p table stamp moment low is
+    (get p.contents table) refl h

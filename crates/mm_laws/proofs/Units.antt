@@ -30,9 +30,12 @@ none_times b = zero-*ℤ (finer b) ∙ sym (ap finer (zero-*ℤ b))
 -- a factor goes past the unit
 pub times : (a b : ℤ) → a *ℤ finer b ≡ finer (a *ℤ b)
 times (pos zero) b = none_times b
-times (pos (suc n)) b = suc_ℤ-*ℤ (pos n) (finer b) ∙ ap (λ z. z +ℤ finer b) (times (pos n) b) ∙ together (pos n *ℤ b) b ∙ sym (ap finer (suc_ℤ-*ℤ (pos n) b))
-times (negsuc zero) b = pred_ℤ-*ℤ (pos zero) (finer b) ∙ ap (λ z. z -ℤ finer b) (none_times b) ∙ apart (pos zero *ℤ b) b ∙ sym (ap finer (pred_ℤ-*ℤ (pos zero) b))
-times (negsuc (suc n)) b = pred_ℤ-*ℤ (negsuc n) (finer b) ∙ ap (λ z. z -ℤ finer b) (times (negsuc n) b) ∙ apart (negsuc n *ℤ b) b ∙ sym (ap finer (pred_ℤ-*ℤ (negsuc n) b))
+times (pos (suc n)) b = suc_ℤ-*ℤ (pos n) (finer b) ∙ ap (λ z. z +ℤ finer b) (times (pos n) b) ∙ together (pos n *ℤ b) b
+    ∙ sym (ap finer (suc_ℤ-*ℤ (pos n) b))
+times (negsuc zero) b = pred_ℤ-*ℤ (pos zero) (finer b) ∙ ap (λ z. z -ℤ finer b) (none_times b) ∙ apart (pos zero *ℤ b) b
+    ∙ sym (ap finer (pred_ℤ-*ℤ (pos zero) b))
+times (negsuc (suc n)) b = pred_ℤ-*ℤ (negsuc n) (finer b) ∙ ap (λ z. z -ℤ finer b) (times (negsuc n) b)
+    ∙ apart (negsuc n *ℤ b) b ∙ sym (ap finer (pred_ℤ-*ℤ (negsuc n) b))
 
 -- a size in the larger limits, told as it was
 pub wider : (z : ℤ) → IsPixelSize millimetres z → IsPixelSize micrometres z

@@ -1,5 +1,6 @@
 -- What the laws of this crate speak of.
-use Rattle.std.specs.Prelude.{◌≡◌, ◌≢◌, ℕ, List, [], ◌∷◌, Ok, Bool, ◌&&◌, ◌||◌, ◌==◌, nat_le, is_some, IsTrue, true, false, ◌++◌, ◌⊎◌, Some}
+use Rattle.std.specs.Prelude.{◌≡◌, ◌≢◌, ℕ, List, [], ◌∷◌, Ok, Bool, ◌&&◌, ◌||◌, ◌==◌, nat_le, is_some, IsTrue, true}
+use Rattle.std.specs.Prelude.{false, ◌++◌, ◌⊎◌, Some}
 use Rattle.std.specs.List.{list_any}
 use Rattle.mm_definitions.specs.declared.refusals.TheConstants.{NO_SUCH_RECORD, OUT_OF_LIMITS, NOT_A_NAME}
 use Rattle.mm_definitions.specs.Keys.{Text, same_text, PieceKey}
@@ -58,7 +59,8 @@ pub record FirstRefused (p : Package) (edition : Text) : Type 0 where
 -- ---- refusals
 -- the numbers of the reasons for which a command is refused
 abbrev pub is_reason_number : ℕ → Bool
-is_reason_number n = (nat_le 20 n && nat_le n 27) || (nat_le 30 n && nat_le n 35) || (nat_le 40 n && nat_le n 48) || (nat_le 50 n && nat_le n 55)
+is_reason_number n = (nat_le 20 n && nat_le n 27) || (nat_le 30 n && nat_le n 35) || (nat_le 40 n && nat_le n 48)
+    || (nat_le 50 n && nat_le n 55)
 
 -- The number is one of these, and a piece is named exactly with 53.
 pub record IsNumberedRefusal (r : Refusal) : Type 0 where
@@ -90,7 +92,8 @@ sets_last_change p c t = changes c t
 
 -- The table's row has this stamp where it is set, and is as it was where it is not.
 abbrev pub IsSetOrKept : Bool → Text → ContentsPart → Text → Contents → Type 0
-IsSetOrKept is_set stamp before t row = ((is_set ≡ true) × (row.last_change ≡ stamp)) ⊎ ((is_set ≡ false) × Has before t row)
+IsSetOrKept is_set stamp before t row = ((is_set ≡ true) × (row.last_change ≡ stamp))
+    ⊎ ((is_set ≡ false) × Has before t row)
 
 -- ---- records
 -- the numbers that may hold against the fields of a record

@@ -27,6 +27,7 @@ touched_already p table at is = go (get p.contents table) refl is
     go : (c : Option Contents) → get p.contents table ≡ c → IsStampedAs p table at → touched_row p table at c ≡ p
     go None none is = refl
     go (Some c) found is =
-        let same : c.last_change ≡ at = same_some (sym (ap (option_map (λ (x : Contents). x.last_change)) found) ∙ is) in
+        let same : c.last_change ≡ at = same_some (sym (ap (option_map (λ (x : Contents). x.last_change)) found)
+        ∙ is) in
         ap (λ m. record p { contents = m })
         (put_again texts p.contents table (changed_at at c) (found ∙ ap (λ (t : Text). Some (changed_at t c)) same))

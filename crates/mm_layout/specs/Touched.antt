@@ -1,5 +1,5 @@
--- What `touch` does: it sets last_change of a table that stands, and is refused 25 where none has the name. No rule is asked
--- of the package.
+-- What `touch` does: it sets last_change of a table that stands, and is refused 25 where none has the name. No rule is
+-- asked of the package.
 use Rattle.std.specs.Prelude.{◌≡◌, false, None, Some, option_map}
 use Rattle.std.specs.FinMap.{contains_key, get}
 use Rattle.mm_definitions.specs.Effects.{touch}

@@ -1,5 +1,6 @@
 -- The first row among the lower zooms, or the higher ones, is that of the nearest.
-use Rattle.std.proofs.Common.{◌≡◌, ℕ, ℤ, pos, ◌<ℤ◌, ◌≤ℤ◌, Bool, true, false, ◌&&◌, List, [], ◌∷◌, Option, Some, None, refl, sym, ap, subst, ◌∙◌, arith}
+use Rattle.std.proofs.Common.{◌≡◌, ℕ, ℤ, pos, ◌<ℤ◌, ◌≤ℤ◌, Bool, true, false, ◌&&◌, List, [], ◌∷◌, Option, Some, None}
+use Rattle.std.proofs.Common.{refl, sym, ap, subst, ◌∙◌, arith}
 use Rattle.std.proofs.lemmas.Int.{ints}
 use Rattle.std.specs.declared.cmp.Ordering.{Ordering}
 use Rattle.std.specs.declared.cmp.Ordering.TheVariants.{Less, Equal, Greater}
@@ -96,11 +97,15 @@ is_more a b h = go (int_cmp a b) (int_ranks a b)
 
 -- what the query shows of a matrix
 abbrev zoomed_row : Level → Grid → Row
-zoomed_row k g = Int k.zoom ∷ Int g.matrix_width ∷ Int g.matrix_height ∷ Int g.tile_width ∷ Int g.tile_height ∷ Int g.pixel_x_size ∷ Int g.pixel_y_size ∷ []
+zoomed_row k g = Int k.zoom ∷ Int g.matrix_width ∷ Int g.matrix_height ∷ Int g.tile_width ∷ Int g.tile_height
+    ∷ Int g.pixel_x_size ∷ Int g.pixel_y_size ∷ []
 
-module _ (rows : List Row) (m : FinMap level_cmp Grid) (h : Holds past_rowid grid_row rows m) (table : Text) (near : ℤ → Bool) (before : ℤ → ℤ → Bool) (test : Row → Bool) (cmp : Row → Row → Ordering) (show : Row → Row)
-    (tells : (r : Row) (k : Level) (g : Grid) → past_rowid r ≡ grid_row k g → test r ≡ (same_text k.table table && near k.zoom))
-    (orders : (r s : Row) (k l : Level) (g i : Grid) → past_rowid r ≡ grid_row k g → past_rowid s ≡ grid_row l i → is_lt (cmp r s) ≡ before k.zoom l.zoom)
+module _ (rows : List Row) (m : FinMap level_cmp Grid) (h : Holds past_rowid grid_row rows m) (table : Text)
+    (near : ℤ → Bool) (before : ℤ → ℤ → Bool) (test : Row → Bool) (cmp : Row → Row → Ordering) (show : Row → Row)
+    (tells : (r : Row) (k : Level) (g : Grid) → past_rowid r ≡ grid_row k g
+    → test r ≡ (same_text k.table table && near k.zoom))
+    (orders : (r s : Row) (k l : Level) (g i : Grid) → past_rowid r ≡ grid_row k g → past_rowid s ≡ grid_row l i
+    → is_lt (cmp r s) ≡ before k.zoom l.zoom)
     (shown : (r : Row) (k : Level) (g : Grid) → past_rowid r ≡ grid_row k g → show r ≡ zoomed_row k g) where
   -- the row of a matrix of the table whose zoom passes
   passing : (other : ℤ) (g : Grid) → Has m (level table other) g → near other ≡ true
@@ -116,7 +121,8 @@ module _ (rows : List Row) (m : FinMap level_cmp Grid) (h : Holds past_rowid gri
       both_ways _ no_row (some_from test rows r.0 r.1 r.2))
 
   first_near : (entry : ℕ × Matrix) (x : Row) → ShowsZoomed x entry → FindsFirst test cmp show rows (Some x)
-      → Has m (level table (pos entry.0)) (grid entry.1) × (near (pos entry.0) ≡ true) × ((other : ℤ) → Stands m (level table other) → near other ≡ true → before other (pos entry.0) ≡ false)
+      → Has m (level table (pos entry.0)) (grid entry.1) × (near (pos entry.0) ≡ true)
+      × ((other : ℤ) → Stands m (level table other) → near other ≡ true → before other (pos entry.0) ≡ false)
   first_near entry x it f =
       let at = h.sound f.0 f.1 in
       let both = and_parts (same_text at.0.table table) (near at.0.zoom) (sym (tells f.0 at.0 at.1 at.3) ∙ f.2) in
@@ -129,14 +135,23 @@ module _ (rows : List Row) (m : FinMap level_cmp Grid) (h : Holds past_rowid gri
       let d : at.1.tile_height ≡ pos entry.1.th = same_int (sym (ap (λ (r : Row). column r 4) row_is) ∙ it.1.th) in
       let e : at.1.pixel_x_size ≡ entry.1.px = same_int (sym (ap (λ (r : Row). column r 5) row_is) ∙ it.1.px) in
       let i : at.1.pixel_y_size ≡ entry.1.py = same_int (sym (ap (λ (r : Row). column r 6) row_is) ∙ it.1.py) in
-      let grid_is : at.1 ≡ grid entry.1 = λ j. record { matrix_width = a j; matrix_height = b j; tile_width = c j; tile_height = d j; pixel_x_size = e j; pixel_y_size = i j } in
+      let grid_is : at.1 ≡ grid entry.1 =
+      λ j. record {
+        matrix_width = a j;
+        matrix_height = b j;
+        tile_width = c j;
+        tile_height = d j;
+        pixel_x_size = e j;
+        pixel_y_size = i j;
+      } in
       let key_is : at.0 ≡ level table (pos entry.0) = λ j. level (table_is j) (zoom_is j) in (
         ap (get m) (sym key_is) ∙ at.2 ∙ ap Some grid_is,
         ap near (sym zoom_is) ∙ both.1,
         λ other stands is.
             let g = some_of (get m (level table other)) stands in
             let r = passing other g.0 g.1 is in
-            ap (before other) (sym zoom_is) ∙ sym (orders r.0 f.0 (level table other) at.0 g.0 at.1 r.3 at.3) ∙ f.4 r.0 r.1 r.2,
+            ap (before other) (sym zoom_is) ∙ sym (orders r.0 f.0 (level table other) at.0 g.0 at.1 r.3 at.3)
+            ∙ f.4 r.0 r.1 r.2,
       )
 
 -- ---- the two queries
@@ -170,53 +185,85 @@ more_int : (a b : ℤ) → compared Gt (Int a) (Int b) ≡ is_gt (int_cmp a b)
 unfolding binary
 more_int a b = as_truth _ ∙ ap is_gt (value_cmp-Int a b)
 
-module _ (rows : List Row) (m : FinMap level_cmp Grid) (h : Holds past_rowid grid_row rows m) (table : Text) (zoom : ℤ) where
-  tells : (op : CompareOp) (near : ℤ → Bool) → ((z : ℤ) → compared op (Int z) (Int zoom) ≡ near z) → (r : Row) (k : Level) (g : Grid)
-      → past_rowid r ≡ grid_row k g
-      → passes (equals 1 0 ∷ compares op 2 1 ∷ []) (at_zoom table zoom) r ≡ (same_text k.table table && near k.zoom)
-  tells op near is_near r k g is =
-      ap (λ x. equal Binary x (Words table) && (compared op (column r 2) (Int zoom) && true)) (columns_are r (grid_row k g) 0 is)
-      ∙ ap (λ x. equal Binary (Words k.table) (Words table) && (compared op x (Int zoom) && true)) (columns_are r (grid_row k g) 1 is)
-      ∙ ap (λ b. b && (compared op (Int k.zoom) (Int zoom) && true)) (equal_text k.table table)
-      ∙ ap (λ b. same_text k.table table && b) (and_true (compared op (Int k.zoom) (Int zoom)) ∙ is_near k.zoom)
+module _ (rows : List Row) (m : FinMap level_cmp Grid) (h : Holds past_rowid grid_row rows m) (table : Text) (zoom : ℤ)
+  where
+    tells : (op : CompareOp) (near : ℤ → Bool) → ((z : ℤ) → compared op (Int z) (Int zoom) ≡ near z)
+        → (r : Row) (k : Level) (g : Grid)
+        → past_rowid r ≡ grid_row k g
+        → passes (equals 1 0 ∷ compares op 2 1 ∷ []) (at_zoom table zoom) r ≡ (same_text k.table table && near k.zoom)
+    tells op near is_near r k g is =
+        ap (λ x. equal Binary x (Words table) && (compared op (column r 2) (Int zoom) && true))
+        (columns_are r (grid_row k g) 0 is)
+        ∙ ap (λ x. equal Binary (Words k.table) (Words table) && (compared op x (Int zoom) && true))
+        (columns_are r (grid_row k g) 1 is)
+        ∙ ap (λ b. b && (compared op (Int k.zoom) (Int zoom) && true)) (equal_text k.table table)
+        ∙ ap (λ b. same_text k.table table && b) (and_true (compared op (Int k.zoom) (Int zoom)) ∙ is_near k.zoom)
 
-  shown : (r : Row) (k : Level) (g : Grid) → past_rowid r ≡ grid_row k g → shows zoom_columns (at_zoom table zoom) r ≡ zoomed_row k g
-  shown r k g is = λ i.
-      columns_are r (grid_row k g) 1 is i ∷ columns_are r (grid_row k g) 2 is i ∷ columns_are r (grid_row k g) 3 is i ∷ columns_are r (grid_row k g) 4 is i
-      ∷ columns_are r (grid_row k g) 5 is i ∷ columns_are r (grid_row k g) 6 is i ∷ columns_are r (grid_row k g) 7 is i ∷ []
+    shown : (r : Row) (k : Level) (g : Grid) → past_rowid r ≡ grid_row k g
+        → shows zoom_columns (at_zoom table zoom) r ≡ zoomed_row k g
+    shown r k g is = λ i.
+        columns_are r (grid_row k g) 1 is i ∷ columns_are r (grid_row k g) 2 is i ∷ columns_are r (grid_row k g) 3 is i
+        ∷ columns_are r (grid_row k g) 4 is i
+        ∷ columns_are r (grid_row k g) 5 is i ∷ columns_are r (grid_row k g) 6 is i
+        ∷ columns_are r (grid_row k g) 7 is i
+        ∷ []
 
-  order_of : (r s : Row) (k l : Level) (g i : Grid) → past_rowid r ≡ grid_row k g → past_rowid s ≡ grid_row l i
-      → value_cmp (column r 2) (column s 2) ≡ int_cmp k.zoom l.zoom
-  order_of r s k l g i p q = ap (λ x. value_cmp x (column s 2)) (columns_are r (grid_row k g) 1 p) ∙ ap (value_cmp (Int k.zoom)) (columns_are s (grid_row l i) 1 q) ∙ value_cmp-Int k.zoom l.zoom
+    order_of : (r s : Row) (k l : Level) (g i : Grid) → past_rowid r ≡ grid_row k g → past_rowid s ≡ grid_row l i
+        → value_cmp (column r 2) (column s 2) ≡ int_cmp k.zoom l.zoom
+    order_of r s k l g i p q = ap (λ x. value_cmp x (column s 2)) (columns_are r (grid_row k g) 1 p)
+        ∙ ap (value_cmp (Int k.zoom)) (columns_are s (grid_row l i) 1 q) ∙ value_cmp-Int k.zoom l.zoom
 
-  abbrev is_lower : ℤ → Bool
-  is_lower z = is_lt (int_cmp z zoom)
+    abbrev is_lower : ℤ → Bool
+    is_lower z = is_lt (int_cmp z zoom)
 
-  abbrev is_higher : ℤ → Bool
-  is_higher z = is_gt (int_cmp z zoom)
+    abbrev is_higher : ℤ → Bool
+    is_higher z = is_gt (int_cmp z zoom)
 
-  pub below_found : (near : Option (ℕ × Matrix)) (first : Option Row) → GivesZoomed near first
-      → FindsFirst (passes lower_terms (at_zoom table zoom)) (by_column (col 1 2) falling (at_zoom table zoom)) (shows zoom_columns (at_zoom table zoom)) rows first
-      → IsNearestBelow m table zoom (zoomed near)
-  below_found None first gives finds =
-      let none = subst (FindsFirst (passes lower_terms (at_zoom table zoom)) (by_column (col 1 2) falling (at_zoom table zoom)) (shows zoom_columns (at_zoom table zoom)) rows) gives finds in
-      λ other stands. not_less other zoom (none_near rows m h table is_lower (λ a b. is_lt (int_cmp b a)) _ (by_column (col 1 2) falling (at_zoom table zoom)) _ (tells Lt is_lower (λ z. less_int z zoom))
-      (λ r s k l g i p q. ap is_lt (order_of s r l k i g q p)) shown none other stands)
-  below_found (Some entry) first gives finds =
-      let some = subst (FindsFirst (passes lower_terms (at_zoom table zoom)) (by_column (col 1 2) falling (at_zoom table zoom)) (shows zoom_columns (at_zoom table zoom)) rows) gives.1 finds in
-      let it = first_near rows m h table is_lower (λ a b. is_lt (int_cmp b a)) _ (by_column (col 1 2) falling (at_zoom table zoom)) _ (tells Lt is_lower (λ z. less_int z zoom))
-      (λ r s k l g i p q. ap is_lt (order_of s r l k i g q p)) shown entry gives.0 gives.2 some in
-      (it.0, less_is (pos entry.0) zoom it.1, λ other stands lower. not_less (pos entry.0) other (it.2 other stands (is_less other zoom lower)))
+    pub below_found : (near : Option (ℕ × Matrix)) (first : Option Row) → GivesZoomed near first
+        → FindsFirst (passes lower_terms (at_zoom table zoom)) (by_column (col 1 2) falling (at_zoom table zoom))
+        (shows zoom_columns (at_zoom table zoom)) rows first
+        → IsNearestBelow m table zoom (zoomed near)
+    below_found None first gives finds =
+        let none = subst (FindsFirst (passes lower_terms (at_zoom table zoom))
+        (by_column (col 1 2) falling (at_zoom table zoom)) (shows zoom_columns (at_zoom table zoom)) rows) gives
+        finds in
+        λ other stands. not_less other zoom
+        (none_near rows m h table is_lower (λ a b. is_lt (int_cmp b a)) _
+        (by_column (col 1 2) falling (at_zoom table zoom)) _ (tells Lt is_lower (λ z. less_int z zoom))
+        (λ r s k l g i p q. ap is_lt (order_of s r l k i g q p)) shown none other stands)
+    below_found (Some entry) first gives finds =
+        let some = subst (FindsFirst (passes lower_terms (at_zoom table zoom))
+        (by_column (col 1 2) falling (at_zoom table zoom)) (shows zoom_columns (at_zoom table zoom)) rows) gives.1
+        finds in
+        let it = first_near rows m h table is_lower (λ a b. is_lt (int_cmp b a)) _
+        (by_column (col 1 2) falling (at_zoom table zoom)) _ (tells Lt is_lower (λ z. less_int z zoom))
+        (λ r s k l g i p q. ap is_lt (order_of s r l k i g q p)) shown entry gives.0 gives.2 some in (
+          it.0,
+          less_is (pos entry.0) zoom it.1,
+          λ other stands lower. not_less (pos entry.0) other
+              (it.2 other stands (is_less other zoom lower)),
+        )
 
-  pub above_found : (near : Option (ℕ × Matrix)) (first : Option Row) → GivesZoomed near first
-      → FindsFirst (passes higher_terms (at_zoom table zoom)) (by_column (col 1 2) rising (at_zoom table zoom)) (shows zoom_columns (at_zoom table zoom)) rows first
-      → IsNearestAbove m table zoom (zoomed near)
-  above_found None first gives finds =
-      let none = subst (FindsFirst (passes higher_terms (at_zoom table zoom)) (by_column (col 1 2) rising (at_zoom table zoom)) (shows zoom_columns (at_zoom table zoom)) rows) gives finds in
-      λ other stands. not_more other zoom (none_near rows m h table is_higher (λ a b. is_lt (int_cmp a b)) _ (by_column (col 1 2) rising (at_zoom table zoom)) _ (tells Gt is_higher (λ z. more_int z zoom))
-      (λ r s k l g i p q. ap is_lt (order_of r s k l g i p q)) shown none other stands)
-  above_found (Some entry) first gives finds =
-      let some = subst (FindsFirst (passes higher_terms (at_zoom table zoom)) (by_column (col 1 2) rising (at_zoom table zoom)) (shows zoom_columns (at_zoom table zoom)) rows) gives.1 finds in
-      let it = first_near rows m h table is_higher (λ a b. is_lt (int_cmp a b)) _ (by_column (col 1 2) rising (at_zoom table zoom)) _ (tells Gt is_higher (λ z. more_int z zoom))
-      (λ r s k l g i p q. ap is_lt (order_of r s k l g i p q)) shown entry gives.0 gives.2 some in
-      (it.0, more_is (pos entry.0) zoom it.1, λ other stands higher. not_less other (pos entry.0) (it.2 other stands (is_more other zoom higher)))
+    pub above_found : (near : Option (ℕ × Matrix)) (first : Option Row) → GivesZoomed near first
+        → FindsFirst (passes higher_terms (at_zoom table zoom)) (by_column (col 1 2) rising (at_zoom table zoom))
+        (shows zoom_columns (at_zoom table zoom)) rows first
+        → IsNearestAbove m table zoom (zoomed near)
+    above_found None first gives finds =
+        let none = subst (FindsFirst (passes higher_terms (at_zoom table zoom))
+        (by_column (col 1 2) rising (at_zoom table zoom)) (shows zoom_columns (at_zoom table zoom)) rows) gives finds in
+        λ other stands. not_more other zoom
+        (none_near rows m h table is_higher (λ a b. is_lt (int_cmp a b)) _
+        (by_column (col 1 2) rising (at_zoom table zoom)) _ (tells Gt is_higher (λ z. more_int z zoom))
+        (λ r s k l g i p q. ap is_lt (order_of r s k l g i p q)) shown none other stands)
+    above_found (Some entry) first gives finds =
+        let some = subst (FindsFirst (passes higher_terms (at_zoom table zoom))
+        (by_column (col 1 2) rising (at_zoom table zoom)) (shows zoom_columns (at_zoom table zoom)) rows) gives.1
+        finds in
+        let it = first_near rows m h table is_higher (λ a b. is_lt (int_cmp a b)) _
+        (by_column (col 1 2) rising (at_zoom table zoom)) _ (tells Gt is_higher (λ z. more_int z zoom))
+        (λ r s k l g i p q. ap is_lt (order_of r s k l g i p q)) shown entry gives.0 gives.2 some in (
+          it.0,
+          more_is (pos entry.0) zoom it.1,
+          λ other stands higher. not_less other (pos entry.0)
+              (it.2 other stands (is_more other zoom higher)),
+        )

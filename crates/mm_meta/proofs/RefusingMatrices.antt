@@ -1,5 +1,6 @@
 -- For which number a matrix is refused, from what was looked up.
-use Rattle.std.proofs.Common.{◌≡◌, inl, inr, ℕ, pos, Bool, true, false, not, ◌&&◌, ◌||◌, [], ◌∷◌, Option, Some, None, refl, sym, ap, ◌∙◌}
+use Rattle.std.proofs.Common.{◌≡◌, inl, inr, ℕ, pos, Bool, true, false, not, ◌&&◌, ◌||◌, [], ◌∷◌, Option, Some, None}
+use Rattle.std.proofs.Common.{refl, sym, ap, ◌∙◌}
 use Rattle.std.specs.FinMap.{get, contains_key}
 use Rattle.std.proofs.lemmas.Bool.{true_from_ne_false}
 use Rattle.mm_definitions.specs.Bounds.{Profile}
@@ -28,7 +29,9 @@ module _ (p : Package) (table : Text) (zoom : ℕ) (m : Matrix) where
   why = least (own_reasons p (commands.Matrix table zoom m))
 
   abbrev of_matrix : Bool → Bool → Bool → Bool → Bool → Option ℕ
-  of_matrix stands pyramid there misfit clash = least ((25, not stands) ∷ (26, stands && not pyramid) ∷ (30, pyramid && there) ∷ (31, pyramid && misfit) ∷ (32, pyramid && clash) ∷ [])
+  of_matrix stands pyramid there misfit clash =
+      least ((25, not stands) ∷ (26, stands && not pyramid) ∷ (30, pyramid && there) ∷ (31, pyramid && misfit)
+      ∷ (32, pyramid && clash) ∷ [])
 
   abbrev pyramid : Bool
   pyramid = is_pyramid p.kinds table
@@ -51,7 +54,8 @@ module _ (p : Package) (table : Text) (zoom : ℕ) (m : Matrix) where
   is_stepped steps.Two = refl
   is_stepped steps.Other = refl
 
-  is_two : (step : Step) → at_value (same_text (kind_text kinds.Two)) (Some (kind_text (step_kind step))) ≡ is_halved step
+  is_two : (step : Step) → at_value (same_text (kind_text kinds.Two)) (Some (kind_text (step_kind step)))
+      ≡ is_halved step
   is_two steps.Two = refl
   is_two steps.Other = refl
 
@@ -63,11 +67,14 @@ module _ (p : Package) (table : Text) (zoom : ℕ) (m : Matrix) where
     pub matrix_25 : get p.kinds table ≡ None → Some 25 ≡ why
     matrix_25 none =
         sym (ap (λ b. of_matrix b pyramid there misfit clash) (lacks_contents profile p meets table none)
-        ∙ first_of 25 ((26, false) ∷ (30, pyramid && there) ∷ (31, pyramid && misfit) ∷ (32, pyramid && clash) ∷ []) refl)
+        ∙ first_of 25 ((26, false) ∷ (30, pyramid && there) ∷ (31, pyramid && misfit) ∷ (32, pyramid && clash) ∷ [])
+        refl)
 
     module _ (kind : Kind) (has : get p.kinds table ≡ Some (kind_text kind)) where
       pub matrix_26 : IsPlainKind kind → Some 26 ≡ why
-      matrix_26 plain = sym (ap (λ b. of_matrix b pyramid there misfit clash) (has_contents profile p meets table kind has) ∙ ap (λ b. of_matrix true b there misfit clash) (ap pyramid_by has ∙ is_plain kind plain))
+      matrix_26 plain = sym (ap (λ b. of_matrix b pyramid there misfit clash)
+          (has_contents profile p meets table kind has)
+          ∙ ap (λ b. of_matrix true b there misfit clash) (ap pyramid_by has ∙ is_plain kind plain))
 
       module _ (step : Step) (is : kind ≡ step_kind step) where
         tiled : is_pyramid p.kinds table ≡ true
@@ -76,42 +83,56 @@ module _ (p : Package) (table : Text) (zoom : ℕ) (m : Matrix) where
         halved : has_kind p.kinds table kinds.Two ≡ is_halved step
         halved = ap (at_value (same_text (kind_text kinds.Two))) (has ∙ ap (λ k. Some (kind_text k)) is) ∙ is_two step
 
-        of_pyramid : (b d e : Bool) → of_matrix (contains_key p.contents table) pyramid b d e ≡ of_matrix true true b d e
-        of_pyramid b d e = ap (λ x. of_matrix x pyramid b d e) (has_contents profile p meets table kind has) ∙ ap (λ x. of_matrix true x b d e) tiled
+        of_pyramid : (b d e : Bool) → of_matrix (contains_key p.contents table) pyramid b d e ≡ of_matrix true true b d
+            e
+        of_pyramid b d e = ap (λ x. of_matrix x pyramid b d e) (has_contents profile p meets table kind has)
+            ∙ ap (λ x. of_matrix true x b d e) tiled
 
         pub matrix_30 : contains_key p.matrices (level table (pos zoom)) ≡ true → Some 30 ≡ why
-        matrix_30 found = sym (of_pyramid there misfit clash ∙ ap (λ b. of_matrix true true b misfit clash) found ∙ first_of 30 ((31, misfit) ∷ (32, clash) ∷ []) refl)
+        matrix_30 found = sym (of_pyramid there misfit clash ∙ ap (λ b. of_matrix true true b misfit clash) found
+            ∙ first_of 30 ((31, misfit) ∷ (32, clash) ∷ []) refl)
 
-        module _ (free : contains_key p.matrices (level table (pos zoom)) ≡ false) (s : MatrixSet) (set_is : Has p.sets table s) where
+        module _ (free : contains_key p.matrices (level table (pos zoom)) ≡ false) (s : MatrixSet)
+            (set_is : Has p.sets table s) where
           misfit_is : misfit ≡ not (is_product s.box (grid m))
           misfit_is = ap (at_value (λ (s : MatrixSet). not (is_product s.box (grid m)))) set_is
 
           pub matrix_31 : is_product s.box (grid m) ≡ false → Some 31 ≡ why
           matrix_31 off =
-              sym (of_pyramid there misfit clash ∙ ap (λ b. of_matrix true true b misfit clash) free ∙ ap (λ b. of_matrix true true false b clash) (misfit_is ∙ ap not off)
+              sym (of_pyramid there misfit clash ∙ ap (λ b. of_matrix true true b misfit clash) free
+              ∙ ap (λ b. of_matrix true true false b clash) (misfit_is ∙ ap not off)
               ∙ first_of 31 ((32, clash) ∷ []) refl)
 
-          module _ (covers : is_product s.box (grid m) ≡ true) (below above : Option Zoomed) (low : IsNearestBelow p.matrices table (pos zoom) below) (high : IsNearestAbove p.matrices table (pos zoom) above) where
-            fitting : (e : Bool) → of_matrix (contains_key p.contents table) pyramid there misfit e ≡ of_matrix true true false false e
-            fitting e = of_pyramid there misfit e ∙ ap (λ b. of_matrix true true b misfit e) free ∙ ap (λ b. of_matrix true true false b e) (misfit_is ∙ ap not covers)
+          module _ (covers : is_product s.box (grid m) ≡ true) (below above : Option Zoomed)
+              (low : IsNearestBelow p.matrices table (pos zoom) below)
+              (high : IsNearestAbove p.matrices table (pos zoom) above) where
+            fitting : (e : Bool) → of_matrix (contains_key p.contents table) pyramid there misfit e ≡ of_matrix true
+                true false false e
+            fitting e = of_pyramid there misfit e ∙ ap (λ b. of_matrix true true b misfit e) free
+                ∙ ap (λ b. of_matrix true true false b e) (misfit_is ∙ ap not covers)
 
-            told : neighbours below (pos zoom) (grid m) above (has_kind p.kinds table kinds.Two) ≡ neighbours below (pos zoom) (grid m) above (is_halved step)
+            told : neighbours below (pos zoom) (grid m) above (has_kind p.kinds table kinds.Two) ≡ neighbours below
+                (pos zoom) (grid m) above (is_halved step)
             told = ap (neighbours below (pos zoom) (grid m) above) halved
 
             pub matrix_32 : neighbours below (pos zoom) (grid m) above (is_halved step) ≡ false → Some 32 ≡ why
             matrix_32 off =
                 let clashing : clash ≡ true = true_from_ne_false _ (λ none.
-                let t = (clash_by_nearest p table (pos zoom) (grid m) below above meets.q8 meets.q9 free low high).1 none in
+                let t = (clash_by_nearest p table (pos zoom) (grid m) below above meets.q8 meets.q9 free low high).1
+                none in
                 let e : true ≡ false = sym t ∙ told ∙ off in cc) in
                 sym (fitting clash ∙ ap (of_matrix true true false false) clashing)
 
             pub matrix_free : neighbours below (pos zoom) (grid m) above (is_halved step) ≡ true → None ≡ why
             matrix_free on =
-                let calm : clash ≡ false = (clash_by_nearest p table (pos zoom) (grid m) below above meets.q8 meets.q9 free low high).0 (told ∙ on) in
+                let calm : clash ≡ false = (clash_by_nearest p table (pos zoom) (grid m) below above meets.q8 meets.q9
+                free low high).0 (told ∙ on) in
                 sym (fitting clash ∙ ap (of_matrix true true false false) calm)
 
   -- where it is not refused, no matrix stands at the zoom
-  pub matrix_is_new : None ≡ least (own_reasons p (commands.Matrix table zoom m)) → get p.matrices (level table (pos zoom)) ≡ None
+  pub matrix_is_new : None ≡ least (own_reasons p (commands.Matrix table zoom m))
+      → get p.matrices (level table (pos zoom)) ≡ None
   matrix_is_new none =
       let each = none_holds (own_reasons p (commands.Matrix table zoom m)) (sym none) in
-      none_of (get p.matrices (level table (pos zoom))) (and_false pyramid there each.1.1.0 (is_suited (contains_key p.contents table) pyramid each.0 each.1.0))
+      none_of (get p.matrices (level table (pos zoom)))
+      (and_false pyramid there each.1.1.0 (is_suited (contains_key p.contents table) pyramid each.0 each.1.0))

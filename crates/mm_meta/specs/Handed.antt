@@ -1,4 +1,5 @@
--- What a call makes with the transaction that it is handed: tables, and a package in them. Each leaves it the transaction on the same connection (`same`).
+-- What a call makes with the transaction that it is handed: tables, and a package in them. Each leaves it the
+-- transaction on the same connection (`same`).
 use Rattle.std.specs.Prelude.{◌≡◌, ℤ, Result}
 use Rattle.sqlite.specs.Held.{state}
 use Rattle.sqlite.specs.Store.{Ghosts}
@@ -24,7 +25,8 @@ module _ {S T : Type 0} (g : Ghosts S) (old new : Transaction S) where
   -- the same, to a package of the profile of this version
   pub record MakesOfVersion (from : Schema) (version : ℤ) (p : Package) (result : Result T Fault) : Type 0 where
     pub same : IsSame old new
-    pub made : (profile : Profile) → profile.version ≡ version → IsMaking from (state g old.conn.now) (state g new.conn.now) profile p result
+    pub made : (profile : Profile) → profile.version ≡ version
+        → IsMaking from (state g old.conn.now) (state g new.conn.now) profile p result
 
   -- where the tables stand already it makes none
   abbrev pub MakesNone : Result T Fault → Type 0

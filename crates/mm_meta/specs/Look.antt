@@ -2,7 +2,8 @@
 use Rattle.std.specs.Prelude.{◌≡◌, ◌≢◌, ◌⊎◌, ⊤, ℤ, pos, Bool, true, false, List, [], ◌∷◌, Result, Ok, Err, IsTrue}
 use Rattle.sqlite.specs.declared.error.Error.{Error}
 use Rattle.sqlite.specs.declared.error.Error.TheVariants.{SqliteFailure}
-use Rattle.sqlite.specs.declared.error.ErrorCode.TheVariants.{OutOfMemory, SystemIoFailure, DatabaseCorrupt, DiskFull, Closed, OperationInterrupted}
+use Rattle.sqlite.specs.declared.error.ErrorCode.TheVariants.{OutOfMemory, SystemIoFailure, DatabaseCorrupt, DiskFull}
+use Rattle.sqlite.specs.declared.error.ErrorCode.TheVariants.{Closed, OperationInterrupted}
 use Rattle.sqlite.specs.declared.types.Value.TheVariants.{Int}
 use Rattle.sqlite.specs.Order.{Row, column}
 use Rattle.sqlite.specs.State.{State, HasCleanDisk, IsUnchanged, IsRolledBack, FailsToQuery, Shown}
@@ -73,10 +74,12 @@ FindsNone old new (Err opens.NoProfile) = IsUnchanged old new
 FindsNone old new (Err (opens.Fault fault)) = ⊤
 FindsNone old new _ = ⊥
 
--- It commits nothing, and all is as it was, or the store failed and undid the transaction. It answers as the profile's row tells.
+-- It commits nothing, and all is as it was, or the store failed and undid the transaction. It answers as the profile's
+-- row tells.
 pub record IsLooked (old new : State) (result : Result (Unit {0}) Open) : Type 0 where
   pub survives : CommitsNothing old new
   pub rests : HasCleanDisk new → IsUnchanged old new ⊎ IsRolledBack old new
   pub answers : HasCleanDisk new → AnswersLook old new result
-  pub agrees : HasCleanDisk new → (version : ℤ) (p : Package) → (IsTrue old.is_open → ReadsAs version old.now p) → Agrees version result
+  pub agrees : HasCleanDisk new → (version : ℤ) (p : Package) → (IsTrue old.is_open → ReadsAs version old.now p)
+      → Agrees version result
   pub none : HasCleanDisk new → IsBlank old → FindsNone old new result

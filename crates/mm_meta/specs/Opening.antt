@@ -54,13 +54,15 @@ module _ {T : Type 0} (from : Schema) (old new : State) where
   -- what a call makes of the tables of one schema, each without a row, to those of another
   pub record IsCreating (to : Schema) (result : Result T Fault) : Type 0 where
     pub survives : CommitsNothing old new
-    pub made : HasCleanDisk new → (ground : Ground) → IsBareAt from old ground → OnOk result (IsTrue new.is_open × IsBareAt to new ground)
+    pub made : HasCleanDisk new → (ground : Ground) → IsBareAt from old ground
+        → OnOk result (IsTrue new.is_open × IsBareAt to new ground)
     pub faults : IfErr result IsStoreFault
 
   -- what a call makes of them to a package
   pub record IsMaking (profile : Profile) (p : Package) (result : Result T Fault) : Type 0 where
     pub survives : CommitsNothing old new
-    pub made : HasCleanDisk new → (ground : Ground) → IsBareAt from old ground → OnOk result (IsTrue new.is_open × StandsInside profile new ground p)
+    pub made : HasCleanDisk new → (ground : Ground) → IsBareAt from old ground
+        → OnOk result (IsTrue new.is_open × StandsInside profile new ground p)
     pub faults : IfErr result IsStoreFault
 
 -- where the tables stand already it fails
@@ -79,13 +81,14 @@ pub record IsBlank (s : State) : Type 0 where
   pub schema_is : IsTrue s.is_open → s.now.schema ≡ no_schema
   pub left : (db : Trees) → s.may_leave db → HasNoTable db
 
--- `Ok` only where the store is open, the database then stands for the opening package, and nothing else may be left. In each case, after a crash
--- or a fault too, each database that may be left was there before or stands for it; so it has no table or stands for it.
--- Where the tables of a package stand already nothing is committed.
+-- `Ok` only where the store is open, the database then stands for the opening package, and nothing else may be left. In
+-- each case, after a crash or a fault too, each database that may be left was there before or stands for it; so it has
+-- no table or stands for it. Where the tables of a package stand already nothing is committed.
 pub record IsInit (profile : Profile) (old new : State) (result : Result (Unit {0}) Fault) : Type 0 where
   pub survives : Survives old new (λ db. IsBlank old → StandsFor profile.version db opening)
   pub is_open : HasCleanDisk new → OnOk result (IsTrue new.is_open)
   pub made : HasCleanDisk new → IsBlank old → OnOk result (IsSettled profile new opening)
-  pub left : HasCleanDisk new → IsBlank old → (db : Trees) → new.may_leave db → HasNoTable db ⊎ StandsFor profile.version db opening
+  pub left : HasCleanDisk new → IsBlank old → (db : Trees) → new.may_leave db → HasNoTable db
+      ⊎ StandsFor profile.version db opening
   pub stays : HasTables old → CommitsNothing old new
   pub faults : IfErr result IsStoreFault

@@ -30,20 +30,25 @@ use Rattle.mm_check.specs.Checked.{Judged, IsChecked, NoNumber, OnlyStoreFaults}
 abbrev Scaled : State → Trees → Type 0
 Scaled old db = (p : Package) → MayScale old p → StandsFor micrometres.version db (scale p)
 
-left_before : (profile : Profile) (old new : State) (p : Package) → CommitsNothing old new → HasCleanDisk new → IsSettled profile old p → (db : Trees)
+left_before : (profile : Profile) (old new : State) (p : Package) → CommitsNothing old new → HasCleanDisk new
+    → IsSettled profile old p → (db : Trees)
     → new.may_leave db → StandsFor profile.version db p
-left_before profile old new p quiet clean it db may = elim (quiet.crash clean db may) [ inl before ↦ it.left db before | inr none ↦ absurd none ]
+left_before profile old new p quiet clean it db may = elim (quiet.crash clean db may)
+    [ inl before ↦ it.left db before | inr none ↦ absurd none ]
 
-unchanged_seen : (profile : Profile) (old new : State) (p : Package) → IsUnchanged old new → IsSeenAs profile old p → IsSeenAs profile new p
+unchanged_seen : (profile : Profile) (old new : State) (p : Package) → IsUnchanged old new → IsSeenAs profile old p
+    → IsSeenAs profile new p
 unchanged_seen profile old new p same it = let shows = same.0 in record {
   mode = shows.mode ∙ it.mode;
   back = λ up. subst (λ db. ReadsAs profile.version db p) (sym shows.committed_is) (it.back shows.was_open);
   reads = λ up. subst (λ db. ReadsAs profile.version db p) (sym shows.now_is) (it.reads shows.was_open);
 }
 
-unchanged_settled : (profile : Profile) (old new : State) (p : Package) → CommitsNothing old new → HasCleanDisk new → IsUnchanged old new
+unchanged_settled : (profile : Profile) (old new : State) (p : Package) → CommitsNothing old new → HasCleanDisk new
+    → IsUnchanged old new
     → IsSettled profile old p → IsSettled profile new p
-unchanged_settled profile old new p quiet clean same it = settled_still profile old new p quiet clean (unchanged_seen profile old new p same) it
+unchanged_settled profile old new p quiet clean same it = settled_still profile old new p quiet clean
+    (unchanged_seen profile old new p same) it
 
 -- ---- a package in millimetres
 
@@ -51,16 +56,19 @@ module _ (old mid : State) where
   quietly : CommitsNothing old mid → Survives old mid (Scaled old)
   quietly h = survives_weaker old mid (λ _. ⊥) (Scaled old) (λ _ db none. absurd none) h
 
-  stopped_by : (why : Open) (p : Package) → CommitsNothing old mid → HasCleanDisk mid → IsSettled millimetres old p → IsSettled millimetres mid p
+  stopped_by : (why : Open) (p : Package) → CommitsNothing old mid → HasCleanDisk mid → IsSettled millimetres old p
+      → IsSettled millimetres mid p
       → Judged millimetres p (Err why) → Migrates p mid (Err why)
   stopped_by (opens.Rule rule) p quiet clean was it judged = (it, judged)
-  stopped_by (opens.Fault fault) p quiet clean was it judged = λ db may. inl (left_before millimetres old mid p quiet clean was db may)
+  stopped_by (opens.Fault fault) p quiet clean was it judged =
+      λ db may. inl (left_before millimetres old mid p quiet clean was db may)
   stopped_by (opens.Version version) p quiet clean was it judged = absurd judged
   stopped_by opens.NoProfile p quiet clean was it judged = absurd judged
   stopped_by opens.BadProfile p quiet clean was it judged = absurd judged
   stopped_by opens.BadBlobs p quiet clean was it judged = absurd judged
 
-  stopped_seen : (why : Open) (p : Package) → IsSeenAs millimetres mid p → Judged millimetres p (Err why) → MigratesSeen p mid (Err why)
+  stopped_seen : (why : Open) (p : Package) → IsSeenAs millimetres mid p → Judged millimetres p (Err why)
+      → MigratesSeen p mid (Err why)
   stopped_seen (opens.Rule rule) p it judged = (it, judged)
   stopped_seen (opens.Fault fault) p it judged = tt
   stopped_seen (opens.Version version) p it judged = absurd judged
@@ -73,7 +81,8 @@ module _ (old mid : State) where
     survives = quietly it.survives;
     is_open = λ clean. tt;
     refused = λ _. it.survives;
-    migrates = λ clean p s. stopped_by why p it.survives clean s (it.settled clean p s) (it.says clean p (seen_of millimetres old p s));
+    migrates = λ clean p s. stopped_by why p it.survives clean s (it.settled clean p s)
+        (it.says clean p (seen_of millimetres old p s));
     migrates_seen = λ clean p s. stopped_seen why p (it.seen clean p s) (it.says clean p s);
     blobs = it.blobs;
     no_number = it.no_number;
@@ -85,12 +94,14 @@ module _ (old mid : State) where
     may clean p it = (checked.seen clean p it.0, it.1)
 
     survived : Survives mid new (Scaled mid) → Survives old new (Scaled old)
-    survived h = survives_then old mid new _ _ (Scaled old) (λ _ db none. absurd none) (λ clean db it p s. it p (may (omega (arith, clean, h.clean)) p s)) checked.survives h
+    survived h = survives_then old mid new _ _ (Scaled old) (λ _ db none. absurd none)
+        (λ clean db it p s. it p (may (omega (arith, clean, h.clean)) p s)) checked.survives h
 
     limits : HasCleanDisk mid → (p : Package) → IsSeenAs millimetres old p → MayScale old p
     limits clean p s = (s, (checked.says clean p s).q16)
 
-    scales : IsRescaled mid new (Ok tt) → HasCleanDisk new → (p : Package) → IsSeenAs millimetres old p → MigratesSeen p new (Ok tt)
+    scales : IsRescaled mid new (Ok tt) → HasCleanDisk new → (p : Package) → IsSeenAs millimetres old p
+        → MigratesSeen p new (Ok tt)
     scales it clean p s =
         let early : HasCleanDisk mid = omega (arith, clean, it.survives.clean) in
         (it.done clean p (may early p (limits early p s)), scaled p (checked.says early p s))
@@ -134,17 +145,20 @@ other_versions : millimetres.version ≡ micrometres.version → ⊥
 other_versions e = absurd (cc)
 
 module _ (old mid : State) where
-  in_micrometres : (result : Result (Unit {0}) Open) (new : State) (p : Package) → CommitsNothing old new → HasCleanDisk new
+  in_micrometres : (result : Result (Unit {0}) Open) (new : State) (p : Package) → CommitsNothing old new
+      → HasCleanDisk new
       → IsSettled micrometres old p → IsSettled micrometres new p → Judged micrometres p result → Adopts p new result
   in_micrometres (Ok u) new p quiet clean was it judged = (it, judged)
   in_micrometres (Err (opens.Rule rule)) new p quiet clean was it judged = (it, judged)
-  in_micrometres (Err (opens.Fault fault)) new p quiet clean was it judged = left_before micrometres old new p quiet clean was
+  in_micrometres (Err (opens.Fault fault)) new p quiet clean was it judged = left_before micrometres old new p quiet
+      clean was
   in_micrometres (Err (opens.Version version)) new p quiet clean was it judged = absurd judged
   in_micrometres (Err opens.NoProfile) new p quiet clean was it judged = absurd judged
   in_micrometres (Err opens.BadProfile) new p quiet clean was it judged = absurd judged
   in_micrometres (Err opens.BadBlobs) new p quiet clean was it judged = absurd judged
 
-  seen_in_micrometres : (result : Result (Unit {0}) Open) (new : State) (p : Package) → IsSeenAs micrometres new p → Judged micrometres p result
+  seen_in_micrometres : (result : Result (Unit {0}) Open) (new : State) (p : Package) → IsSeenAs micrometres new p
+      → Judged micrometres p result
       → AdoptsSeen p new result
   seen_in_micrometres (Ok u) new p it judged = (it, judged)
   seen_in_micrometres (Err (opens.Rule rule)) new p it judged = (it, judged)
@@ -154,7 +168,8 @@ module _ (old mid : State) where
   seen_in_micrometres (Err opens.BadProfile) new p it judged = absurd judged
   seen_in_micrometres (Err opens.BadBlobs) new p it judged = absurd judged
 
-  no_telling : (new : State) (result : Result (Unit {0}) Open) → NoNumber result → ShowsEither old → TellsNumber old new result
+  no_telling : (new : State) (result : Result (Unit {0}) Open) → NoNumber result → ShowsEither old
+      → TellsNumber old new result
   no_telling new (Ok u) h shows = shows
   no_telling new (Err (opens.Version version)) h shows = absurd h
   no_telling new (Err opens.NoProfile) h shows = absurd h
@@ -171,13 +186,17 @@ module _ (old mid : State) where
   unchanged_well (inl a) = a.2
   unchanged_well (inr a) = absurd a.2
 
-  looked_well : IsLooked old mid (Ok tt) → HasCleanDisk mid → (p : Package) → IsSettled micrometres old p → IsSettled micrometres mid p
-  looked_well looked clean p it = unchanged_settled micrometres old mid p looked.survives clean (unchanged_well (looked.answers clean)) it
+  looked_well : IsLooked old mid (Ok tt) → HasCleanDisk mid → (p : Package) → IsSettled micrometres old p
+      → IsSettled micrometres mid p
+  looked_well looked clean p it = unchanged_settled micrometres old mid p looked.survives clean
+      (unchanged_well (looked.answers clean)) it
 
-  seen_well : IsLooked old mid (Ok tt) → HasCleanDisk mid → (p : Package) → IsSeenAs micrometres old p → IsSeenAs micrometres mid p
+  seen_well : IsLooked old mid (Ok tt) → HasCleanDisk mid → (p : Package) → IsSeenAs micrometres old p
+      → IsSeenAs micrometres mid p
   seen_well looked clean p it = unchanged_seen micrometres old mid p (unchanged_well (looked.answers clean)) it
 
-  pub adopted : (new : State) (result : Result (Unit {0}) Open) → IsLooked old mid (Ok tt) → IsChecked micrometres mid new result → IsMigration old new result
+  pub adopted : (new : State) (result : Result (Unit {0}) Open) → IsLooked old mid (Ok tt)
+      → IsChecked micrometres mid new result → IsMigration old new result
   adopted new result looked checked =
       let quiet = quiet_then old mid new looked.survives checked.survives in
       let early : HasCleanDisk new → HasCleanDisk mid = λ clean. omega (arith, clean, checked.survives.clean) in
@@ -185,14 +204,18 @@ module _ (old mid : State) where
         survives = committing_nothing old new quiet;
         is_open = checked.is_open;
         refused = λ _. quiet;
-        adopts = λ clean p s. let it = looked_well looked (early clean) p s in in_micrometres result new p quiet clean s (checked.settled clean p it) (checked.says clean p (seen_of micrometres mid p it));
-        adopts_seen = λ clean p s. let it = seen_well looked (early clean) p s in seen_in_micrometres result new p (checked.seen clean p it) (checked.says clean p it);
+        adopts = λ clean p s. let it = looked_well looked (early clean) p s in in_micrometres result new p quiet clean s
+            (checked.settled clean p it) (checked.says clean p (seen_of micrometres mid p it));
+        adopts_seen = λ clean p s. let it = seen_well looked (early clean) p s in seen_in_micrometres result new p
+            (checked.seen clean p it) (checked.says clean p it);
         migrates = λ clean p s. absurd (other_versions (looked.agrees (early clean) millimetres.version p s.reads));
-        migrates_seen = λ clean p s. absurd (other_versions (looked.agrees (early clean) millimetres.version p s.reads));
+        migrates_seen = λ clean p s. absurd
+            (other_versions (looked.agrees (early clean) millimetres.version p s.reads));
         tells = λ clean. no_telling new result checked.no_number (inl (shows_current (looked.answers (early clean))));
         some = λ clean. when_ok result (λ blank. looked.none (early clean) blank);
         profile = λ clean. when_ok result (λ version p reads. inl (looked.agrees (early clean) version p reads));
-        blobs = λ clean. told_as_before old mid (unchanged_well (looked.answers (early clean))) result (checked.blobs clean);
+        blobs = λ clean. told_as_before old mid (unchanged_well (looked.answers (early clean))) result
+            (checked.blobs clean);
         faults = λ clean. checked.faults;
       }
 
@@ -204,22 +227,31 @@ module _ (old mid : State) where
   unchanged_older (inl a) = a.2
   unchanged_older (inr a) = absurd a.2
 
-  looked_older : IsLooked old mid (Err (opens.Version millimetres.version)) → HasCleanDisk mid → (p : Package) → IsSettled millimetres old p
+  looked_older : IsLooked old mid (Err (opens.Version millimetres.version)) → HasCleanDisk mid → (p : Package)
+      → IsSettled millimetres old p
       → IsSettled millimetres mid p
-  looked_older looked clean p it = unchanged_settled millimetres old mid p looked.survives clean (unchanged_older (looked.answers clean)) it
+  looked_older looked clean p it = unchanged_settled millimetres old mid p looked.survives clean
+      (unchanged_older (looked.answers clean)) it
 
-  seen_older : IsLooked old mid (Err (opens.Version millimetres.version)) → HasCleanDisk mid → (p : Package) → IsSeenAs millimetres old p
+  seen_older : IsLooked old mid (Err (opens.Version millimetres.version)) → HasCleanDisk mid → (p : Package)
+      → IsSeenAs millimetres old p
       → IsSeenAs millimetres mid p
   seen_older looked clean p it = unchanged_seen millimetres old mid p (unchanged_older (looked.answers clean)) it
 
-  pub older : (new : State) (why : Open) (result : Result (Unit {0}) Open) → IsLooked old mid (Err why) → why ≡ opens.Version millimetres.version
+  pub older : (new : State) (why : Open) (result : Result (Unit {0}) Open) → IsLooked old mid (Err why)
+      → why ≡ opens.Version millimetres.version
       → IsOlder mid new result → IsMigration old new result
   older new why result looked is it =
-      let at : IsLooked old mid (Err (opens.Version millimetres.version)) = subst (λ w. IsLooked old mid (Err w)) is looked in
+      let at : IsLooked old mid (Err (opens.Version millimetres.version)) = subst (λ w. IsLooked old mid (Err w)) is
+      looked in
       let early : HasCleanDisk new → HasCleanDisk mid = λ clean. omega (arith, clean, it.survives.clean) in
       record {
         survives = survives_then old mid new _ _ (MayCommitScaled old) (λ _ db none. absurd none)
-            (λ clean db all. (shows_version (at.answers (early_from it clean)), λ p s. all p (seen_older at (early_from it clean) p s.0, s.1))) at.survives it.survives;
+            (λ clean db all. (
+              shows_version (at.answers (early_from it clean)),
+              λ p s. all p
+                  (seen_older at (early_from it clean) p s.0, s.1),
+            )) at.survives it.survives;
         is_open = it.is_open;
         refused = λ is. quiet_then old mid new at.survives (it.refused is);
         adopts = λ clean p s. absurd (other_versions (at.agrees (early clean) micrometres.version p s.reads).0);
@@ -238,7 +270,8 @@ module _ (old mid : State) where
 
   -- ---- any other answer of the look
 
-  told : (why : Open) → why ≢ opens.Version millimetres.version → AnswersLook old mid (Err why) → TellsNumber old mid (Err why)
+  told : (why : Open) → why ≢ opens.Version millimetres.version → AnswersLook old mid (Err why)
+      → TellsNumber old mid (Err why)
   told (opens.Version version) other it = (it, λ e. other (ap opens.Version e))
   told opens.NoProfile other it = it
   told opens.BadProfile other it = it
@@ -257,14 +290,16 @@ module _ (old mid : State) where
   not_adopted (opens.Rule rule) p quiet clean s it = absurd it
   not_adopted (opens.Fault fault) p quiet clean s it = left_before micrometres old mid p quiet clean s
 
-  not_migrated : (why : Open) (p : Package) → why ≢ opens.Version millimetres.version → CommitsNothing old mid → HasCleanDisk mid
+  not_migrated : (why : Open) (p : Package) → why ≢ opens.Version millimetres.version → CommitsNothing old mid
+      → HasCleanDisk mid
       → IsSettled millimetres old p → Agrees millimetres.version (Err why) → Migrates p mid (Err why)
   not_migrated (opens.Version version) p other quiet clean s it = absurd (other (ap opens.Version it.0))
   not_migrated opens.NoProfile p other quiet clean s it = absurd it
   not_migrated opens.BadProfile p other quiet clean s it = absurd it
   not_migrated opens.BadBlobs p other quiet clean s it = absurd it
   not_migrated (opens.Rule rule) p other quiet clean s it = absurd it
-  not_migrated (opens.Fault fault) p other quiet clean s it = λ db may. inl (left_before millimetres old mid p quiet clean s db may)
+  not_migrated (opens.Fault fault) p other quiet clean s it =
+      λ db may. inl (left_before millimetres old mid p quiet clean s db may)
 
   not_adopted_seen : (why : Open) (p : Package) → Agrees micrometres.version (Err why) → AdoptsSeen p mid (Err why)
   not_adopted_seen (opens.Version version) p it = absurd (it.1 refl)
@@ -274,7 +309,8 @@ module _ (old mid : State) where
   not_adopted_seen (opens.Rule rule) p it = absurd it
   not_adopted_seen (opens.Fault fault) p it = tt
 
-  not_migrated_seen : (why : Open) (p : Package) → why ≢ opens.Version millimetres.version → Agrees millimetres.version (Err why)
+  not_migrated_seen : (why : Open) (p : Package) → why ≢ opens.Version millimetres.version
+      → Agrees millimetres.version (Err why)
       → MigratesSeen p mid (Err why)
   not_migrated_seen (opens.Version version) p other it = absurd (other (ap opens.Version it.0))
   not_migrated_seen opens.NoProfile p other it = absurd it
@@ -303,13 +339,15 @@ module _ (old mid : State) where
   form_untold (opens.Rule rule) (inr it) = absurd it.2
   form_untold (opens.Fault fault) it = tt
 
-  pub refused : (why : Open) → IsLooked old mid (Err why) → why ≢ opens.Version millimetres.version → IsMigration old mid (Err why)
+  pub refused : (why : Open) → IsLooked old mid (Err why) → why ≢ opens.Version millimetres.version
+      → IsMigration old mid (Err why)
   refused why looked other = record {
     survives = committing_nothing old mid looked.survives;
     is_open = λ clean. tt;
     refused = λ _. looked.survives;
     adopts = λ clean p s. not_adopted why p looked.survives clean s (looked.agrees clean micrometres.version p s.reads);
-    migrates = λ clean p s. not_migrated why p other looked.survives clean s (looked.agrees clean millimetres.version p s.reads);
+    migrates = λ clean p s. not_migrated why p other looked.survives clean s
+        (looked.agrees clean millimetres.version p s.reads);
     adopts_seen = λ clean p s. not_adopted_seen why p (looked.agrees clean micrometres.version p s.reads);
     migrates_seen = λ clean p s. not_migrated_seen why p other (looked.agrees clean millimetres.version p s.reads);
     tells = λ clean. told why other (looked.answers clean);

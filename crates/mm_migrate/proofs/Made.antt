@@ -22,16 +22,25 @@ use Rattle.mm_migrate.proofs.Rows.{contents_becomes, set_becomes, matrix_becomes
 
 module _ (version : ℤ) (db : Trees) (p : Package) (h : Holding version db p) where
   pub contents : Each p.contents (ContentsWithin millimetres)
-      → Holding version (with_tree db 1 (map (updated gpkg_contents contents_sets []) (db 1))) (record p { contents = change_values finer_contents p.contents })
-  contents within = put_contents version db p h _ _ (all_change past_rowid contents_row parts.contents.key_is (db 1) p.contents h.contents (updated gpkg_contents contents_sets []) finer_contents (ContentsWithin millimetres) within contents_becomes)
+      → Holding version (with_tree db 1 (map (updated gpkg_contents contents_sets []) (db 1)))
+      (record p { contents = change_values finer_contents p.contents })
+  contents within = put_contents version db p h _ _
+      (all_change past_rowid contents_row parts.contents.key_is (db 1) p.contents h.contents
+      (updated gpkg_contents contents_sets []) finer_contents (ContentsWithin millimetres) within contents_becomes)
 
   pub sets : Each p.sets (SetWithin millimetres)
-      → Holding version (with_tree db 4 (map (updated gpkg_tile_matrix_set set_sets []) (db 4))) (record p { sets = change_values finer_set p.sets })
-  sets within = put_sets version db p h _ _ (all_change past_rowid set_row parts.sets.key_is (db 4) p.sets h.sets (updated gpkg_tile_matrix_set set_sets []) finer_set (SetWithin millimetres) within set_becomes)
+      → Holding version (with_tree db 4 (map (updated gpkg_tile_matrix_set set_sets []) (db 4)))
+      (record p { sets = change_values finer_set p.sets })
+  sets within = put_sets version db p h _ _
+      (all_change past_rowid set_row parts.sets.key_is (db 4) p.sets h.sets (updated gpkg_tile_matrix_set set_sets [])
+      finer_set (SetWithin millimetres) within set_becomes)
 
   pub matrices : Each p.matrices (MatrixWithin millimetres)
-      → Holding version (with_tree db 6 (map (updated gpkg_tile_matrix matrix_sets []) (db 6))) (record p { matrices = change_values finer_grid p.matrices })
-  matrices within = put_matrices version db p h _ _ (all_change past_rowid grid_row parts.matrices.key_is (db 6) p.matrices h.matrices (updated gpkg_tile_matrix matrix_sets []) finer_grid (MatrixWithin millimetres) within matrix_becomes)
+      → Holding version (with_tree db 6 (map (updated gpkg_tile_matrix matrix_sets []) (db 6)))
+      (record p { matrices = change_values finer_grid p.matrices })
+  matrices within = put_matrices version db p h _ _
+      (all_change past_rowid grid_row parts.matrices.key_is (db 6) p.matrices h.matrices
+      (updated gpkg_tile_matrix matrix_sets []) finer_grid (MatrixWithin millimetres) within matrix_becomes)
 
   -- the one row of the profile names the other version, and each part is as it was
   pub renamed : Holding (pos 2) (with_tree db 12 (map (updated mm_profile version_sets []) (db 12))) p
@@ -47,7 +56,17 @@ module _ (version : ℤ) (db : Trees) (p : Package) (h : Holding version db p) w
     pairings = h.pairings;
     editions = h.editions;
     kept = h.kept;
-    keeps = record { tiles = h.keeps.tiles; media = h.keeps.media; pieces = h.keeps.pieces; blobs = h.keeps.blobs; tiles_told = h.keeps.tiles_told; media_told = h.keeps.media_told; pieces_told = h.keeps.pieces_told; are = h.keeps.are; named = h.keeps.named };
+    keeps = record {
+      tiles = h.keeps.tiles;
+      media = h.keeps.media;
+      pieces = h.keeps.pieces;
+      blobs = h.keeps.blobs;
+      tiles_told = h.keeps.tiles_told;
+      media_told = h.keeps.media_told;
+      pieces_told = h.keeps.pieces_told;
+      are = h.keeps.are;
+      named = h.keeps.named;
+    };
     profile = ap (map (updated mm_profile version_sets [])) h.profile ∙ became;
   }
     where

@@ -21,9 +21,13 @@ use Rattle.mm_store.proofs.Quiet.{quiet_then}
 use Rattle.mm_migrate.specs.Moves.{IsScaling}
 use Rattle.mm_migrate.specs.Handed.{Scales, Renumbers}
 
-module _ (from to : Profile) (old new : State) (sql : List ℕ) (given : Row) (tables : Trees → Trees) (When : Package → Type 0) (next : Package → Package) (result : Result (Unit {0}) Fault) (run : IsRun old new sql given result)
-    (leaves : (count : ℕ) → IsReady schema old → ExecutesInside 0 sql given old new (Ok count) → Leaves schema old new (tables (seen old)))
-    (holds : (p : Package) → Holding from.version (seen old) p → When p → Holding to.version (tables (seen old)) (next p)) where
+module _ (from to : Profile) (old new : State) (sql : List ℕ) (given : Row) (tables : Trees → Trees)
+    (When : Package → Type 0) (next : Package → Package) (result : Result (Unit {0}) Fault)
+    (run : IsRun old new sql given result)
+    (leaves : (count : ℕ) → IsReady schema old → ExecutesInside 0 sql given old new (Ok count)
+    → Leaves schema old new (tables (seen old)))
+    (holds : (p : Package) → Holding from.version (seen old) p → When p → Holding to.version (tables (seen old))
+    (next p)) where
   made_by : (ground : Ground) (p : Package) → StandsInside from old ground p → When p → (r : Result (Unit {0}) Fault)
       → OnOk r ((count : ℕ) × ExecutesInside 0 sql given old new (Ok count))
       → OnOk r (IsTrue new.is_open × StandsInside to new ground (next p))

@@ -15,7 +15,8 @@ use Rattle.mm_store.proofs.Changes.{contents_typed}
 use Rattle.mm_migrate.specs.Texts.{contents_sets, set_sets, matrix_sets}
 use Rattle.mm_migrate.proofs.Products as products
 
-pub contents_becomes : (r : Row) (table : Text) (c : Contents) → ContentsWithin millimetres table c → past_rowid r ≡ contents_row table c
+pub contents_becomes : (r : Row) (table : Text) (c : Contents) → ContentsWithin millimetres table c
+    → past_rowid r ≡ contents_row table c
     → past_rowid (updated gpkg_contents contents_sets [] r) ≡ contents_row table (finer_contents c)
 contents_becomes r table c h is =
     rw (
@@ -34,9 +35,11 @@ contents_becomes r table c h is =
       products.bound c.max_x h.max_x,
       products.bound c.max_y h.max_y,
     )
-    (cast_all_is gpkg_contents.columns (contents_row table (finer_contents c)) (contents_typed table (finer_contents c)))
+    (cast_all_is gpkg_contents.columns (contents_row table (finer_contents c))
+    (contents_typed table (finer_contents c)))
 
-pub set_becomes : (r : Row) (table : Text) (s : MatrixSet) → SetWithin millimetres table s → past_rowid r ≡ set_row table s
+pub set_becomes : (r : Row) (table : Text) (s : MatrixSet) → SetWithin millimetres table s
+    → past_rowid r ≡ set_row table s
     → past_rowid (updated gpkg_tile_matrix_set set_sets [] r) ≡ set_row table (finer_set s)
 set_becomes r table s h is =
     rw (

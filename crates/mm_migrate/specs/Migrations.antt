@@ -19,15 +19,16 @@ use Rattle.mm_check.specs.Checked.{NoNumber, OnlyStoreFaults}
 use Rattle.mm_migrate.specs.Moves.{MayScale, StandsForEither}
 
 -- ---- of a package that is in micrometres already, as of one that is adopted
--- it is settled and meets the rules, or the first rule that fails is told; after a fault each database that may be left stands for it
+-- it is settled and meets the rules, or the first rule that fails is told; after a fault each database that may be left
+-- stands for it
 abbrev pub Adopts : Package → State → Result (Unit {0}) Open → Type 0
 Adopts p new (Ok _) = IsSettled micrometres new p × Meets micrometres p
 Adopts p new (Err (opens.Rule rule)) = IsSettled micrometres new p × IsFailing micrometres p rule
 Adopts p new (Err (opens.Fault fault)) = (db : Trees) → new.may_leave db → StandsFor micrometres.version db p
 Adopts p new (Err _) = ⊥
 
--- ---- of a package in millimetres: it is told in micrometres; or it is as it was, and breaks this rule; or there was a fault,
--- and each database that may be left stands for it as it was or wholly for it in micrometres
+-- ---- of a package in millimetres: it is told in micrometres; or it is as it was, and breaks this rule; or there was a
+-- fault, and each database that may be left stands for it as it was or wholly for it in micrometres
 abbrev pub Migrates : Package → State → Result (Unit {0}) Open → Type 0
 Migrates p new (Ok _) = IsSettled micrometres new (scale p) × Meets micrometres (scale p)
 Migrates p new (Err (opens.Rule rule)) = IsSettled millimetres new p × IsFailing millimetres p rule
@@ -51,10 +52,11 @@ MigratesSeen p new (Err _) = ⊥
 abbrev pub ShowsEither : State → Type 0
 ShowsEither s = ShowsProfile micrometres.version s ⊎ ShowsProfile millimetres.version s
 
--- 93, 94 and 95 are as the look at the profile's row gives it, and another version than these two; all else but a fault is told of a
--- database of these two alone
+-- 93, 94 and 95 are as the look at the profile's row gives it, and another version than these two; all else but a fault
+-- is told of a database of these two alone
 abbrev pub TellsNumber : State → State → Result (Unit {0}) Open → Type 0
-TellsNumber old new (Err (opens.Version version)) = AnswersLook old new (Err (opens.Version version)) × (version ≢ millimetres.version)
+TellsNumber old new (Err (opens.Version version)) = AnswersLook old new (Err (opens.Version version))
+    × (version ≢ millimetres.version)
 TellsNumber old new (Err opens.NoProfile) = AnswersLook old new (Err opens.NoProfile)
 TellsNumber old new (Err opens.BadProfile) = AnswersLook old new (Err opens.BadProfile)
 TellsNumber old new (Err (opens.Fault fault)) = ⊤
@@ -62,11 +64,14 @@ TellsNumber old new _ = ShowsEither old
 
 -- a package of any other version is not read
 abbrev pub IsOfEither : State → Type 0
-IsOfEither s = (version : ℤ) (p : Package) → (IsTrue s.is_open → ReadsAs version s.now p) → (version ≡ micrometres.version) ⊎ (version ≡ millimetres.version)
+IsOfEither s = (version : ℤ) (p : Package) → (IsTrue s.is_open → ReadsAs version s.now p)
+    → (version ≡ micrometres.version) ⊎ (version ≡ millimetres.version)
 
--- what may be committed: of a database whose profile's table shows that of millimetres, the package in micrometres; of others nothing
+-- what may be committed: of a database whose profile's table shows that of millimetres, the package in micrometres; of
+-- others nothing
 abbrev pub MayCommitScaled : State → Trees → Type 0
-MayCommitScaled old db = ShowsProfile millimetres.version old × ((p : Package) → MayScale old p → StandsFor micrometres.version db (scale p))
+MayCommitScaled old db = ShowsProfile millimetres.version old
+    × ((p : Package) → MayScale old p → StandsFor micrometres.version db (scale p))
 
 -- an opening number or a rule
 abbrev pub IsOpeningRefusal : Result (Unit {0}) Open → Type 0

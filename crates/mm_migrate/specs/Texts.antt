@@ -27,7 +27,8 @@ times column factor = op2 (Arith Mul) (col 1 column) (lit (Int factor))
 
 -- a contents row after its UPDATE: the four bounds times 1000, and all else as it was
 abbrev pub contents_sets : List Term
-contents_sets = col 1 1 ∷ col 1 2 ∷ col 1 3 ∷ col 1 4 ∷ col 1 5 ∷ times 6 (pos 1000) ∷ times 7 (pos 1000) ∷ times 8 (pos 1000) ∷ times 9 (pos 1000) ∷ col 1 10 ∷ []
+contents_sets = col 1 1 ∷ col 1 2 ∷ col 1 3 ∷ col 1 4 ∷ col 1 5 ∷ times 6 (pos 1000) ∷ times 7 (pos 1000)
+    ∷ times 8 (pos 1000) ∷ times 9 (pos 1000) ∷ col 1 10 ∷ []
 
 -- a matrix set after its UPDATE: the four bounds times 1000, and all else as it was
 abbrev pub set_sets : List Term

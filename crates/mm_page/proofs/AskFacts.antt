@@ -13,7 +13,8 @@ use Rattle.matchit.proofs.RenameLemmas.{seek-rename}
 use Rattle.mm_definitions.specs.Keys.{Text}
 use Rattle.mm_definitions.specs.Bounds.{IsName, LastZoom, MostTiles}
 use Rattle.mm_page.specs.Asked.{IsRouted, Wanted, Tile, Media, Related, Contents, SpellsWithin, path_from}
-use Rattle.mm_page.specs.Routes.{IsPathPart, IsRowPath, media_path, numbered_patterns, page_rows, related_path, route_of}
+use Rattle.mm_page.specs.Routes.{IsPathPart, IsRowPath, media_path, numbered_patterns, page_rows, related_path}
+use Rattle.mm_page.specs.Routes.{route_of}
 use Rattle.mm_page.specs.Routes.{row_pairs, tile_pairs, tile_path, tile_route, media_row, related_row}
 use Rattle.mm_page.specs.declared.routes.Route.{Route}
 use Rattle.mm_page.specs.declared.routes.Route.TheVariants as route
@@ -26,7 +27,8 @@ abbrev pub second : Text → ℕ
 second path = get_or path 1 0
 
 -- parts that have no slash are those before the first slash
-pub same_front : (a b c d : Text) → has_slash a ≡ false → has_slash c ≡ false → a ++ 47 ∷ b ≡ c ++ 47 ∷ d → (a ≡ c) × (b ≡ d)
+pub same_front : (a b c d : Text) → has_slash a ≡ false → has_slash c ≡ false → a ++ 47 ∷ b ≡ c ++ 47 ∷ d → (a ≡ c)
+    × (b ≡ d)
 same_front [] b [] d ha hc e = (refl, ap (drop 1) e)
 same_front [] b (x ∷ c) d ha hc e =
     let q : 47 ≡ x = ap (λ l. get_or l 0 0) e in
@@ -48,9 +50,11 @@ IsTile t z c r = IsName t × ((n : ℤ) × SpellsWithin (pos 0) (pos LastZoom) z
     × ((n : ℤ) × SpellsWithin (pos 0) (pos (MostTiles - 1)) c n)
     × ((n : ℤ) × SpellsWithin (pos 0) (pos (MostTiles - 1)) r n)
 
-pub tile_only : (t z c r : Text) (w : Wanted) → IsPathPart t → IsPathPart z → IsPathPart c → IsRouted (tile_path t z c r) w → IsTile t z c r
+pub tile_only : (t z c r : Text) (w : Wanted) → IsPathPart t → IsPathPart z → IsPathPart c
+    → IsRouted (tile_path t z c r) w → IsTile t z c r
 tile_only t z c r (Tile u n d e) pt pz pc (z2, c2, r2, is, name, nz, nc, nr) =
-    let (a1, b1) = same_front t (z ++ 47 ∷ (c ++ 47 ∷ r)) u (z2 ++ 47 ∷ (c2 ++ 47 ∷ r2)) pt.0 (name_part u name).0 (ap (drop 7) is) in
+    let (a1, b1) = same_front t (z ++ 47 ∷ (c ++ 47 ∷ r)) u (z2 ++ 47 ∷ (c2 ++ 47 ∷ r2)) pt.0 (name_part u name).0
+    (ap (drop 7) is) in
     let (a2, b2) = same_front z (c ++ 47 ∷ r) z2 (c2 ++ 47 ∷ r2) pz.0 (spelled_part z2 n nz.0).0 b1 in
     let (a3, b3) = same_front c r c2 r2 pc.0 (spelled_part c2 d nc.0).0 b2 in
     (rw a1 name, (n, rw a2 nz), (d, rw a3 nc), (e, rw b3 nr))
@@ -62,7 +66,8 @@ pub media_only : (t i : Text) (w : Wanted) → IsPathPart t → IsRouted (media_
 media_only t i (Media u n) pt (i2, is, name, ni) =
     let (a1, b1) = same_front t i u i2 pt.0 (name_part u name).0 (ap (drop 7) is) in
     (rw a1 name, n, rw b1 ni)
-media_only t i (Tile u n d e) pt (z2, c2, r2, is, n1, n2, n3, n4) = absurd (let q : 109 ≡ 116 = ap second is in omega (arith, q))
+media_only t i (Tile u n d e) pt (z2, c2, r2, is, n1, n2, n3, n4) =
+    absurd (let q : 109 ≡ 116 = ap second is in omega (arith, q))
 media_only t i (Related u n) pt (i2, is, n1, n2) = absurd (let q : 109 ≡ 114 = ap second is in omega (arith, q))
 media_only t i Contents pt is = absurd (let q : 109 ≡ 99 = ap second is in omega (arith, q))
 
@@ -70,7 +75,8 @@ pub related_only : (t i : Text) (w : Wanted) → IsPathPart t → IsRouted (rela
 related_only t i (Related u n) pt (i2, is, name, ni) =
     let (a1, b1) = same_front t i u i2 pt.0 (name_part u name).0 (ap (drop 9) is) in
     (rw a1 name, n, rw b1 ni)
-related_only t i (Tile u n d e) pt (z2, c2, r2, is, n1, n2, n3, n4) = absurd (let q : 114 ≡ 116 = ap second is in omega (arith, q))
+related_only t i (Tile u n d e) pt (z2, c2, r2, is, n1, n2, n3, n4) =
+    absurd (let q : 114 ≡ 116 = ap second is in omega (arith, q))
 related_only t i (Media u n) pt (i2, is, n1, n2) = absurd (let q : 114 ≡ 109 = ap second is in omega (arith, q))
 related_only t i Contents pt is = absurd (let q : 114 ≡ 99 = ap second is in omega (arith, q))
 
@@ -127,24 +133,29 @@ pub related_texts : (t i : Text) → IsAscii (related_path t i) → AllText (row
 related_texts t i h = row_texts t i (ascii_right (codes "/related/") (t ++ 47 ∷ i) h)
 
 -- the route that a path takes
-pub taken : (path : Text) (m : RouteOf Route) → IsText path → first page_rows path ≡ Some m → (k : ℕ) × (m ≡ route_of k) × Formed k path
+pub taken : (path : Text) (m : RouteOf Route) → IsText path → first page_rows path ≡ Some m → (k : ℕ) × (m ≡ route_of k)
+    × Formed k path
 taken path m low h = by (first numbered_patterns path) refl
   where
     by : (o : Option ℕ) → first numbered_patterns path ≡ o → (k : ℕ) × (m ≡ route_of k) × Formed k path
-    by None e = absurd (let f : None ≡ Some m = sym (ap (map_key route_of) e) ∙ sym (seek-rename route_of 0 numbered_patterns path) ∙ h in cc)
+    by None e = absurd (let f : None ≡ Some m = sym (ap (map_key route_of) e)
+        ∙ sym (seek-rename route_of 0 numbered_patterns path) ∙ h in cc)
     by (Some k) e =
-        let f : Some (route_of k) ≡ Some m = sym (ap (map_key route_of) e) ∙ sym (seek-rename route_of 0 numbered_patterns path) ∙ h in
+        let f : Some (route_of k) ≡ Some m = sym (ap (map_key route_of) e)
+        ∙ sym (seek-rename route_of 0 numbered_patterns path) ∙ h in
         (k, (let g : route_of k ≡ m = cc in sym g), path_back path k low e)
 
 -- what no route takes asks for nothing
 goes_on : (path : Text) (k : ℕ) → first numbered_patterns path ≡ Some k → first page_rows path ≡ None → ⊥
-goes_on path k e h = let f : Some (route_of k) ≡ None = sym (ap (map_key route_of) e) ∙ sym (seek-rename route_of 0 numbered_patterns path) ∙ h in cc
+goes_on path k e h = let f : Some (route_of k) ≡ None = sym (ap (map_key route_of) e)
+    ∙ sym (seek-rename route_of 0 numbered_patterns path) ∙ h in cc
 
 pub untaken : (path : Text) → IsText path → first page_rows path ≡ None → (w : Wanted) → ¬ (IsRouted path w)
 untaken path low h (Tile t n d e) (z, c, r, is, name, nz, nc, nr) =
     goes_on path 0 (rw is (tile_goes t z c r (rw is at low) (name_part t name) (spelled_part z n nz.0)
     (spelled_part c d nc.0) (spelled_part r e nr.0))) h
-untaken path low h (Media t n) (i, is, name, ni) = goes_on path 1 (rw is (media_goes t i (rw is at low) (name_part t name) (spelled_part i n ni.0))) h
+untaken path low h (Media t n) (i, is, name, ni) =
+    goes_on path 1 (rw is (media_goes t i (rw is at low) (name_part t name) (spelled_part i n ni.0))) h
 untaken path low h (Related t n) (i, is, name, ni) = goes_on path 2
     (rw is (related_goes t i (rw is at low) (name_part t name) (spelled_part i n ni.0))) h
 untaken path low h Contents is = goes_on path 3 (rw is contents_goes) h
@@ -158,10 +169,12 @@ IsTileMatch path m = (t z c r : Text) × (path ≡ tile_path t z c r) × (pairs_
     × AllText (tile_pairs t z c r) × IsPathPart t × IsPathPart z × IsPathPart c × IsPathPart r
 
 abbrev pub IsMediaMatch : Text → RouteOf Route → Type 0
-IsMediaMatch path m = (t i : Text) × (path ≡ media_path t i) × (pairs_at m path ≡ row_pairs t i) × AllText (row_pairs t i) × IsPathPart t
+IsMediaMatch path m = (t i : Text) × (path ≡ media_path t i) × (pairs_at m path ≡ row_pairs t i)
+    × AllText (row_pairs t i) × IsPathPart t
 
 abbrev pub IsRelatedMatch : Text → RouteOf Route → Type 0
-IsRelatedMatch path m = (t i : Text) × (path ≡ related_path t i) × (pairs_at m path ≡ row_pairs t i) × AllText (row_pairs t i) × IsPathPart t
+IsRelatedMatch path m = (t i : Text) × (path ≡ related_path t i) × (pairs_at m path ≡ row_pairs t i)
+    × AllText (row_pairs t i) × IsPathPart t
 
 -- what a match says, by its route
 abbrev pub IsMatch : Text → RouteOf Route → Route → Type 0
@@ -206,7 +219,8 @@ part_ascii a b ha hb = IsAscii-append a (47 ∷ b) ha (IsAscii-append (47 ∷ []
 pub asks_ascii : (path : Text) (w : Wanted) → IsRouted path w → IsAscii path
 asks_ascii path (Tile t n d e) (z, c, r, is, name, nz, nc, nr) =
     rw is (IsAscii-append (codes "/tiles/") _ (ascii_word (codes "/tiles/") refl)
-    (part_ascii t _ (name_ascii t name) (part_ascii z _ (spelled_ascii z n nz.0) (part_ascii c r (spelled_ascii c d nc.0) (spelled_ascii r e nr.0)))))
+    (part_ascii t _ (name_ascii t name)
+    (part_ascii z _ (spelled_ascii z n nz.0) (part_ascii c r (spelled_ascii c d nc.0) (spelled_ascii r e nr.0)))))
 asks_ascii path (Media t n) (i, is, name, ni) =
     rw is (IsAscii-append (codes "/media/") _ (ascii_word (codes "/media/") refl) (part_ascii t i (name_ascii t name) (spelled_ascii i n ni.0)))
 asks_ascii path (Related t n) (i, is, name, ni) =

@@ -1,5 +1,6 @@
 -- The text of a list of entries, from the value that was built.
-use Rattle.std.proofs.Common.{◌≡◌, List, [], ◌∷◌, map, false, refl, ℕ, ℤ, pos, negsuc, Option, Some, None, Result, Ok, Err, IfOk, String}
+use Rattle.std.proofs.Common.{◌≡◌, List, [], ◌∷◌, map, false, refl, ℕ, ℤ, pos, negsuc, Option, Some, None, Result, Ok}
+use Rattle.std.proofs.Common.{Err, IfOk, String}
 use Rattle.std.specs.declared.alloc.Global.{Global}
 use Rattle.serde_json.specs.Data.{Data}
 use Rattle.serde_json.specs.View.{items_of}
@@ -25,12 +26,14 @@ mate_clean m = rw (whole_clean m.id) refl
 
 table_clean_at : (t : Listed) (place : Option (ℤ × Box)) → has_float (table_data_at t place) ≡ false
 table_clean_at t None = refl
-table_clean_at t (Some (system, e)) = rw (whole_clean e.min_x, whole_clean e.min_y, whole_clean e.max_x, whole_clean e.max_y, whole_clean system) refl
+table_clean_at t (Some (system, e)) =
+    rw (whole_clean e.min_x, whole_clean e.min_y, whole_clean e.max_x, whole_clean e.max_y, whole_clean system) refl
 
 pub table_clean : (t : Listed) → has_float (table_data t) ≡ false
 table_clean t = table_clean_at t t.place
 
-pub text_told : {E : Type 0} (d d2 : Data) (P : String Global → List ℕ) (r : Result (String Global) E) → d ≡ d2 → has_float d2 ≡ false
+pub text_told : {E : Type 0} (d d2 : Data) (P : String Global → List ℕ) (r : Result (String Global) E) → d ≡ d2
+    → has_float d2 ≡ false
     → IfOk r (λ s. has_float d ≡ false → P s ≡ compact_text d) → IfOk r (λ s. P s ≡ compact_text d2)
 text_told d d2 P (Ok s) e none h = rw e at (h (rw e none))
 text_told d d2 P (Err x) e none h = tt

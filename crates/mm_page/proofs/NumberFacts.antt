@@ -22,7 +22,8 @@ onward b rest other none = let q : (b == 47) ≡ false = grind (arith, nat_tests
 abbrev pub AreLettersOrDigits : List ℕ → Type 0
 AreLettersOrDigits text = IsTrue (not (list_any (λ c. not (is_letter_or_digit c)) text))
 
-letter_first : (b : ℕ) (rest : List ℕ) → AreLettersOrDigits (b ∷ rest) → IsTrue (is_letter_or_digit b) × AreLettersOrDigits rest
+letter_first : (b : ℕ) (rest : List ℕ) → AreLettersOrDigits (b ∷ rest) → IsTrue (is_letter_or_digit b)
+    × AreLettersOrDigits rest
 letter_first b rest h =
     let none = not-true (list_any (λ c. not (is_letter_or_digit c)) (b ∷ rest)) h in
     let p = either_false (not (is_letter_or_digit b)) (list_any (λ c. not (is_letter_or_digit c)) rest) none in
@@ -42,7 +43,8 @@ name_part text h = (name_clean text h.all, (let l = h.long.0 in omega (arith, l)
 
 digits_clean : (digits : List ℕ) → AreDigits digits → has_slash digits ≡ false
 digits_clean [] h = refl
-digits_clean (b ∷ rest) h = let d = All-head IsDigit b rest h in onward b rest (λ e. omega (arith, d.0, e)) (digits_clean rest (All-tail IsDigit b rest h))
+digits_clean (b ∷ rest) h = let d = All-head IsDigit b rest h in onward b rest (λ e. omega (arith, d.0, e))
+    (digits_clean rest (All-tail IsDigit b rest h))
 
 lead_part : (digits : List ℕ) → LeadDigits digits → IsPathPart digits
 lead_part [] h = absurd h
@@ -51,7 +53,8 @@ lead_part (b ∷ rest) h = (onward b rest (λ e. omega (arith, h.0, e)) (digits_
 pub spelled_part : (text : List ℕ) (z : ℤ) → SpellsNumber text z → IsPathPart text
 spelled_part text z (inl (e, f)) = rw e (refl, (let l : 0 < 1 = omega arith in l))
 spelled_part text z (inr (inl (h, f))) = lead_part text h
-spelled_part text z (inr (inr (d, e, h, f))) = rw e (onward 45 d (λ q. omega (arith, q)) (lead_part d h).0, (let l : 0 < length (45 ∷ d) = omega arith in l))
+spelled_part text z (inr (inr (d, e, h, f))) =
+    rw e (onward 45 d (λ q. omega (arith, q)) (lead_part d h).0, (let l : 0 < length (45 ∷ d) = omega arith in l))
 
 -- names and numbers are ASCII
 all_low : (P : ℕ → Type 0) → ((b : ℕ) → P b → b < 128) → (text : List ℕ) → All P text → IsAscii text

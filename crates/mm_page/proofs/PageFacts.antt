@@ -26,7 +26,8 @@ tiles_one path t z c r t2 z2 c2 r2 e f pt pt2 pz pz2 pc pc2 =
 
 -- a path asks for one thing
 pub asks_one : (path : Text) (w v : Wanted) → IsRouted path w → IsRouted path v → w ≡ v
-asks_one path (Tile t n d e) (Tile t2 n2 d2 e2) (z, c, r, is, name, nz, nc, nr) (z2, c2, r2, is2, name2, nz2, nc2, nr2) =
+asks_one path (Tile t n d e) (Tile t2 n2 d2 e2) (z, c, r, is, name, nz, nc, nr) (z2, c2, r2, is2, name2, nz2, nc2, nr2)
+    =
     let (a1, a2, a3, a4) = tiles_one path t z c r t2 z2 c2 r2 is is2 (name_part t name) (name_part t2 name2)
     (spelled_part z n nz.0) (spelled_part z2 n2 nz2.0) (spelled_part c d nc.0) (spelled_part c2 d2 nc2.0) in
     let q1 : n ≡ n2 = spells_one z2 n n2 (rw a2 at nz.0) nz2.0 in
@@ -51,21 +52,32 @@ asks_one path (Related t n) (Related t2 n2) (i, is, name, ni) (i2, is2, name2, n
     same : (t t2 : Text) (n n2 : ℤ) → t ≡ t2 → n ≡ n2 → Related t n ≡ Related t2 n2
     same t t2 n n2 p q = rw (p, q) refl
 asks_one path Contents Contents is is2 = refl
-asks_one path (Tile t n d e) (Media u m) (z, c, r, is, w1, w2, w3, w4) (i2, is2, v1, v2) = other path _ _ 116 109 is is2 refl refl (λ q. omega (arith, q))
-asks_one path (Tile t n d e) (Related u m) (z, c, r, is, w1, w2, w3, w4) (i2, is2, v1, v2) = other path _ _ 116 114 is is2 refl refl (λ q. omega (arith, q))
-asks_one path (Tile t n d e) Contents (z, c, r, is, w1, w2, w3, w4) is2 = other path _ _ 116 99 is is2 refl refl (λ q. omega (arith, q))
-asks_one path (Media u m) (Tile t n d e) (i2, is2, v1, v2) (z, c, r, is, w1, w2, w3, w4) = other path _ _ 109 116 is2 is refl refl (λ q. omega (arith, q))
-asks_one path (Related u m) (Tile t n d e) (i2, is2, v1, v2) (z, c, r, is, w1, w2, w3, w4) = other path _ _ 114 116 is2 is refl refl (λ q. omega (arith, q))
-asks_one path Contents (Tile t n d e) is2 (z, c, r, is, w1, w2, w3, w4) = other path _ _ 99 116 is2 is refl refl (λ q. omega (arith, q))
-asks_one path (Media t n) (Related u m) (i, is, w1, w2) (i2, is2, v1, v2) = other path _ _ 109 114 is is2 refl refl (λ q. omega (arith, q))
-asks_one path (Related t n) (Media u m) (i, is, w1, w2) (i2, is2, v1, v2) = other path _ _ 114 109 is is2 refl refl (λ q. omega (arith, q))
+asks_one path (Tile t n d e) (Media u m) (z, c, r, is, w1, w2, w3, w4) (i2, is2, v1, v2) = other path _ _ 116 109 is is2
+    refl refl (λ q. omega (arith, q))
+asks_one path (Tile t n d e) (Related u m) (z, c, r, is, w1, w2, w3, w4) (i2, is2, v1, v2) = other path _ _ 116 114 is
+    is2 refl refl (λ q. omega (arith, q))
+asks_one path (Tile t n d e) Contents (z, c, r, is, w1, w2, w3, w4) is2 = other path _ _ 116 99 is is2 refl refl
+    (λ q. omega (arith, q))
+asks_one path (Media u m) (Tile t n d e) (i2, is2, v1, v2) (z, c, r, is, w1, w2, w3, w4) = other path _ _ 109 116 is2 is
+    refl refl (λ q. omega (arith, q))
+asks_one path (Related u m) (Tile t n d e) (i2, is2, v1, v2) (z, c, r, is, w1, w2, w3, w4) = other path _ _ 114 116 is2
+    is refl refl (λ q. omega (arith, q))
+asks_one path Contents (Tile t n d e) is2 (z, c, r, is, w1, w2, w3, w4) = other path _ _ 99 116 is2 is refl refl
+    (λ q. omega (arith, q))
+asks_one path (Media t n) (Related u m) (i, is, w1, w2) (i2, is2, v1, v2) = other path _ _ 109 114 is is2 refl refl
+    (λ q. omega (arith, q))
+asks_one path (Related t n) (Media u m) (i, is, w1, w2) (i2, is2, v1, v2) = other path _ _ 114 109 is is2 refl refl
+    (λ q. omega (arith, q))
 asks_one path (Media t n) Contents (i, is, w1, w2) is2 = other path _ _ 109 99 is is2 refl refl (λ q. omega (arith, q))
 asks_one path Contents (Media t n) is2 (i, is, w1, w2) = other path _ _ 99 109 is2 is refl refl (λ q. omega (arith, q))
-asks_one path (Related t n) Contents (i, is, w1, w2) is2 = other path _ _ 114 99 is is2 refl refl (λ q. omega (arith, q))
-asks_one path Contents (Related t n) is2 (i, is, w1, w2) = other path _ _ 99 114 is2 is refl refl (λ q. omega (arith, q))
+asks_one path (Related t n) Contents (i, is, w1, w2) is2 = other path _ _ 114 99 is is2 refl refl
+    (λ q. omega (arith, q))
+asks_one path Contents (Related t n) is2 (i, is, w1, w2) = other path _ _ 99 114 is2 is refl refl
+    (λ q. omega (arith, q))
 
 writes_to_one : (p : Package) (path a b : Text) → WritesTo p path a → WritesTo p path b → a ≡ b
-writes_to_one p path a b (inl (w, h, e)) (inl (v, k, f)) = e ∙ ap (λ x. response_of (reply_of p x)) (asks_one path w v h k) ∙ sym f
+writes_to_one p path a b (inl (w, h, e)) (inl (v, k, f)) = e
+    ∙ ap (λ x. response_of (reply_of p x)) (asks_one path w v h k) ∙ sym f
 writes_to_one p path a b (inl (w, h, e)) (inr (none, f)) = absurd (none w h)
 writes_to_one p path a b (inr (none, e)) (inl (v, k, f)) = absurd (none v k)
 writes_to_one p path a b (inr (none, e)) (inr (none2, f)) = e ∙ sym f

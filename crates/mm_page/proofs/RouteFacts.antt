@@ -15,7 +15,8 @@ use Rattle.mm_page.proofs.SeekFacts.{byte_step, cut, last-goes, last-none-slash,
 
 pub low_text : (w : List ℕ) → list_all (λ b. ltb b 256) w ≡ true → IsText w
 low_text [] h = tt
-low_text (b ∷ w) h = let p = and_parts (ltb b 256) (list_all (λ b. ltb b 256) w) h in (ltb-true b 256 p.0, low_text w p.1)
+low_text (b ∷ w) h = let p = and_parts (ltb b 256) (list_all (λ b. ltb b 256) w) h in
+    (ltb-true b 256 p.0, low_text w p.1)
 
 pub text_parts : (a b : List ℕ) → IsText (a ++ b) → IsText a × IsText b
 text_parts [] b h = (tt, h)
@@ -23,7 +24,8 @@ text_parts (x ∷ a) b h = let p = text_parts a b h.1 in ((h.0, p.0), p.1)
 
 -- a path of a route's form leads to it
 
-pub tile_goes : (t z c r : Text) → IsText (tile_path t z c r) → IsPathPart t → IsPathPart z → IsPathPart c → IsPathPart r → first numbered_patterns (tile_path t z c r) ≡ Some 0
+pub tile_goes : (t z c r : Text) → IsText (tile_path t z c r) → IsPathPart t → IsPathPart z → IsPathPart c
+    → IsPathPart r → first numbered_patterns (tile_path t z c r) ≡ Some 0
 tile_goes t z c r low pt pz pc pr =
     let lt = text_parts t (47 ∷ (z ++ 47 ∷ (c ++ 47 ∷ r))) (text_parts (codes "/tiles/") (t ++ 47 ∷ (z ++ 47 ∷ (c ++ 47 ∷ r))) low).1 in
     let lz = text_parts z (47 ∷ (c ++ 47 ∷ r)) lt.1.1 in
@@ -36,7 +38,8 @@ tile_goes t z c r low pt pz pc pr =
     ∙ mid-goes c r (256 ∷ []) 0 lc.0 pc.0 pc.1
     ∙ last-goes r 0 lc.1.1 pr.0 pr.1
 
-pub media_goes : (t i : Text) → IsText (media_path t i) → IsPathPart t → IsPathPart i → first numbered_patterns (media_path t i) ≡ Some 1
+pub media_goes : (t i : Text) → IsText (media_path t i) → IsPathPart t → IsPathPart i
+    → first numbered_patterns (media_path t i) ≡ Some 1
 media_goes t i low pt pi =
     let lt = text_parts t (47 ∷ i) (text_parts (codes "/media/") (t ++ 47 ∷ i) low).1 in
     byte_step numbered_patterns 47 _ refl refl
@@ -45,7 +48,8 @@ media_goes t i low pt pi =
     ∙ mid-goes t i (256 ∷ []) 1 lt.0 pt.0 pt.1
     ∙ last-goes i 1 lt.1.1 pi.0 pi.1
 
-pub related_goes : (t i : Text) → IsText (related_path t i) → IsPathPart t → IsPathPart i → first numbered_patterns (related_path t i) ≡ Some 2
+pub related_goes : (t i : Text) → IsText (related_path t i) → IsPathPart t → IsPathPart i
+    → first numbered_patterns (related_path t i) ≡ Some 2
 related_goes t i low pt pi =
     let lt = text_parts t (47 ∷ i) (text_parts (codes "/related/") (t ++ 47 ∷ i) low).1 in
     byte_step numbered_patterns 47 _ refl refl
@@ -79,8 +83,15 @@ mid_back path t key k low h = elim (cut path) [
   | inl none ↦ no_route k _ (mid-none path t key low none) h
   | inr ([], rest, none, e) ↦ no_route k _ (mid-empty rest t key) (rw e at h)
   | inr (b ∷ v, rest, none, e) ↦
-      let l = text_parts (b ∷ v) (47 ∷ rest) (rw e at low) in
-      (b ∷ v, rest, e, (none, omega arith), l.1.1, sym (mid-goes (b ∷ v) rest t key l.0 none (omega arith)) ∙ (rw e at h))
+      let l = text_parts (b ∷ v) (47 ∷ rest) (rw e at low) in (
+        b ∷ v,
+        rest,
+        e,
+        (none, omega arith),
+        l.1.1,
+        sym (mid-goes (b ∷ v) rest t key l.0 none (omega arith))
+            ∙ (rw e at h),
+      )
 ]
 
 last_back : (path : Text) (key k : ℕ) → IsText path → Goes ((256 ∷ [], key) ∷ []) path k → IsPathPart path × (k ≡ key)
@@ -88,16 +99,22 @@ unfolding seek
 last_back [] key k low h = no_route k None refl h
 last_back (b ∷ p) key k low h = elim (cases_Bool (has_slash (b ∷ p))) [
   | inl slash ↦ no_route k _ (last-none-slash (b ∷ p) key low slash) h
-  | inr none ↦ ((none, omega arith), (let e : Some key ≡ Some k = sym (last-goes (b ∷ p) key low none (omega arith)) ∙ h in cc))
+  | inr none ↦ (
+    (none, omega arith),
+    (let e : Some key ≡ Some k = sym (last-goes (b ∷ p) key low none (omega arith))
+        ∙ h in cc),
+  )
 ]
 
 word_back : (w t path : Text) (key k : ℕ) → IsText w → IsText path → Goes ((w ++ t, key) ∷ []) path k
     → (rest : Text) × (path ≡ w ++ rest) × IsText rest × Goes ((t, key) ∷ []) rest k
 word_back w t path key k lw low h = by (starts_with nat_eq path w) refl
   where
-    by : (u : Bool) → starts_with nat_eq path w ≡ u → (rest : Text) × (path ≡ w ++ rest) × IsText rest × Goes ((t, key) ∷ []) rest k
+    by : (u : Bool) → starts_with nat_eq path w ≡ u → (rest : Text) × (path ≡ w ++ rest) × IsText rest
+        × Goes ((t, key) ∷ []) rest k
     by true e =
-        let is : path ≡ w ++ drop (length w) path = (starts_is Decides-eqb path w (starts_with nat_eq path w) refl).0 e in
+        let is : path ≡ w ++ drop (length w) path = (starts_is Decides-eqb path w (starts_with nat_eq path w) refl).0
+        e in
         let same = first-prefix w ((t, key) ∷ []) path lw in
         (drop (length w) path, is, (text_parts w (drop (length w) path) (rw is at low)).1, sym (rw e at same) ∙ h)
     by false e =
@@ -112,7 +129,8 @@ end_back (b ∷ p) key k h = no_route k _ (byte_step (([], key) ∷ []) b p refl
 -- the form of a path that leads to a route
 abbrev pub Formed : ℕ → Text → Type 0
 Formed k path =
-    ((k ≡ 0) × (t z c r : Text) × (path ≡ tile_path t z c r) × IsPathPart t × IsPathPart z × IsPathPart c × IsPathPart r)
+    ((k ≡ 0) × (t z c r : Text) × (path ≡ tile_path t z c r) × IsPathPart t × IsPathPart z × IsPathPart c
+    × IsPathPart r)
     ⊎ ((k ≡ 1) × (t i : Text) × (path ≡ media_path t i) × IsPathPart t × IsPathPart i)
     ⊎ ((k ≡ 2) × (t i : Text) × (path ≡ related_path t i) × IsPathPart t × IsPathPart i)
     ⊎ ((k ≡ 3) × (path ≡ codes "/contents"))
@@ -140,9 +158,11 @@ cons : (y a : ℕ) (q p : Text) → y ≡ a → q ≡ p → 47 ∷ y ∷ q ≡ 4
 cons y a q p e f = rw (e, f) refl
 
 -- the second byte of a path tells which route it may take
-second_back : (y : ℕ) (q : Text) (k : ℕ) → IsText (y ∷ q) → Goes (step 47 numbered_patterns) (y ∷ q) k → Formed k (47 ∷ y ∷ q)
+second_back : (y : ℕ) (q : Text) (k : ℕ) → IsText (y ∷ q) → Goes (step 47 numbered_patterns) (y ∷ q) k
+    → Formed k (47 ∷ y ∷ q)
 second_back y q k low h =
-    let h1 : Goes (step y (step 47 numbered_patterns)) q k = sym (byte_step (step 47 numbered_patterns) y q refl refl) ∙ h in
+    let h1 : Goes (step y (step 47 numbered_patterns)) q k = sym (byte_step (step 47 numbered_patterns) y q refl refl)
+    ∙ h in
     elim (cases_eq y 99) [
       | inl e ↦
           let (rest, is, lr, hr) = word_back (codes "ontents") [] q 3 k (low_text (codes "ontents") refl) low.1 (rw e at h1) in
@@ -172,7 +192,8 @@ unfolding seek
 path_back [] k low h = no_route k None refl h
 path_back (x ∷ p) k low h = elim (cases_eq x 47) [
   | inl e ↦ by p e low.1 (sym (byte_step numbered_patterns x p refl refl) ∙ h)
-  | inr other ↦ no_route k _ (let a : (47 == x) ≡ false = grind (arith, nat_tests) in byte_step numbered_patterns x p refl refl ∙ (rw a (seek-empty 0 p))) h
+  | inr other ↦ no_route k _ (let a : (47 == x) ≡ false = grind (arith, nat_tests) in byte_step numbered_patterns x p
+      refl refl ∙ (rw a (seek-empty 0 p))) h
 ]
   where
     by : (p : Text) → x ≡ 47 → IsText p → Goes (step x numbered_patterns) p k → Formed k (x ∷ p)

@@ -21,7 +21,8 @@ pub record IsHead (limit room : ℕ) (input : List ℕ) (h : RequestHead) : Type
   pub short : length (print_request h) ≤ limit
   pub few : length h.fields ≤ room
 
--- what reading the head of an input answers: the head that it has, with its parts in so many bytes of the buffer, or that it has none
+-- what reading the head of an input answers: the head that it has, with its parts in so many bytes of the buffer, or
+-- that it has none
 abbrev pub Heads : ℕ → ℕ → List ℕ → List ℕ → List HeaderSpan → Option (ℕ × RequestSpans) → Type 0
 Heads limit room input buf headers None = (h : RequestHead) → ¬ (IsHead limit room input h)
 Heads limit room input buf headers (Some (n, spans)) = (n ≤ length buf) × IsRequestWithin (take n buf) headers spans
@@ -30,11 +31,14 @@ Heads limit room input buf headers (Some (n, spans)) = (n ≤ length buf) × IsR
 -- the parts of the head that was found lie in the buffer, whatever is known of the input
 abbrev pub Lies : List ℕ → List HeaderSpan → Option (ℕ × RequestSpans) → Type 0
 Lies buf headers None = ⊤
-Lies buf headers (Some (n, spans)) = (n ≤ length buf) × IsRequestWithin (take n buf) headers spans × IsRequestOf (take n buf) headers spans
+Lies buf headers (Some (n, spans)) = (n ≤ length buf) × IsRequestWithin (take n buf) headers spans
+    × IsRequestOf (take n buf) headers spans
 
--- No more was read than a head needs: nothing, or what one read gave behind bytes that held no head and left room for more.
+-- No more was read than a head needs: nothing, or what one read gave behind bytes that held no head and left room for
+-- more.
 abbrev pub IsNeeded : ℕ → List ℕ → Type 0
-IsNeeded limit read = (read ≡ []) ⊎ ((before last : List ℕ) × (read ≡ before ++ last) × (length before < limit) × HasNoRequest before)
+IsNeeded limit read = (read ≡ [])
+    ⊎ ((before last : List ℕ) × (read ≡ before ++ last) × (length before < limit) × HasNoRequest before)
 
 -- so much was read, and no more
 abbrev pub ReadsNoMore : ℕ → Option (List ℕ) → Option (List ℕ) → Type 0

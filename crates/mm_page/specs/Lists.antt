@@ -24,7 +24,8 @@ mate_data m = object (member (codes "id") (whole_number m.id) (member (codes "ma
 
 -- an extent: min_x, min_y, max_x and max_y, in micrometres
 abbrev pub extent_data : Box → Data
-extent_data b = array (item (whole_number b.min_x) (item (whole_number b.min_y) (item (whole_number b.max_x) (item (whole_number b.max_y) no_items))))
+extent_data b = array (item (whole_number b.min_x)
+    (item (whole_number b.min_y) (item (whole_number b.max_x) (item (whole_number b.max_y) no_items))))
 
 -- A pyramid has its place, and the data type `tiles`; every other table has none, and the data type `attributes`.
 abbrev pub table_data_at : Listed → Option (ℤ × Box) → Data

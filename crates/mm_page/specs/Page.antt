@@ -20,7 +20,8 @@ where_found (Some a) reply = reply a
 -- what a package answers to what is asked for
 abbrev pub reply_of : Package → Wanted → Reply
 reply_of p (Tile table zoom column row) = where_found (get p.tiles (keys.tile table zoom column row)) (λ bytes. Found (codes "application/octet-stream") bytes)
-reply_of p (Media table id) = where_found (get p.media (item table id)) (λ medium. Found medium.content_type medium.bytes)
+reply_of p (Media table id) = where_found (get p.media (item table id))
+    (λ medium. Found medium.content_type medium.bytes)
 reply_of p (Related table id) = where_found (mates p table id) (λ found. Found (codes "application/json") (mates_text found))
 reply_of p Contents = Found (codes "application/json") (tables_text (shown_tables p))
 
@@ -40,7 +41,8 @@ Writes p method target bytes =
     ((method ≢ codes "GET") × (bytes ≡ response_of NotAllowed))
     ⊎ ((method ≡ codes "GET") × WritesTo p (path_of target) bytes)
 
--- The page of a package and an input: the response to the head at its front, within the limits of one, or 400 where it has none.
+-- The page of a package and an input: the response to the head at its front, within the limits of one, or 400 where it
+-- has none.
 abbrev pub Page : Package → Text → Text → Type 0
 Page p input response =
     ((h : RequestHead) × IsHead MostHeadBytes MostHeadLines input h × Writes p h.method h.target response)

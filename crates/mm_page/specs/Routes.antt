@@ -112,7 +112,8 @@ TookText p key v = AllText (pairs_of p) × (named key (pairs_of p) ≡ Some v)
 
 -- the parameters of a tile's path, and of a row's
 abbrev pub TookTile : Params → Text → Text → Text → Text → Type 0
-TookTile p t z c r = AllText (pairs_of p) × (pairs_of p ≡ tile_pairs t z c r) × IsPathPart t × IsPathPart z × IsPathPart c × IsPathPart r
+TookTile p t z c r = AllText (pairs_of p) × (pairs_of p ≡ tile_pairs t z c r) × IsPathPart t × IsPathPart z
+    × IsPathPart c × IsPathPart r
 
 -- the parameters took this table and this id, in the path of a medium or of what an item is related to
 abbrev pub TookRow : Params → Text → Text → Type 0

@@ -21,14 +21,15 @@ Served on source response = (p : Package) → on p → (input : Text) → source
 abbrev pub ServedTo : (Package → Type 0) → Option Text → Option Text → Option Text → Type 0
 ServedTo on source old new = (response : Text) × Served on source response × Appends old new response
 
--- Why no response was made: 90 where there was no memory for it, or for reading the path before anything is asked for; or what the
--- viewer tells.
+-- Why no response was made: 90 where there was no memory for it, or for reading the path before anything is asked for;
+-- or what the viewer tells.
 abbrev pub IsPageFault : Bool → Fault → Type 0
 IsPageFault failed fault = (fault.0 ≡ faults.memory.0) ⊎ IsViewFault failed fault
 
--- Why it wasn't written whole: 90, 91, 92, or 96 where the reader has failed, and then nothing was written; or 97 where the
--- writer has, and then a front of it was.
-abbrev pub IsCutResponse : Bool → (Package → Type 0) → Option Text → Bool → Option Text → Option Text → Bool → Fault → Type 0
+-- Why it wasn't written whole: 90, 91, 92, or 96 where the reader has failed, and then nothing was written; or 97 where
+-- the writer has, and then a front of it was.
+abbrev pub IsCutResponse : Bool → (Package → Type 0) → Option Text → Bool → Option Text → Option Text → Bool → Fault
+    → Type 0
 IsCutResponse failed on source reading old new writing fault =
     (IsPageFault failed fault × Keeps old new)
     ⊎ ((fault.0 ≡ faults.input.0) × (reading ≡ true) × Keeps old new)
@@ -39,5 +40,6 @@ IsCutResponse failed on source reading old new writing fault =
 
 -- the input asks for a part of the package
 abbrev pub AsksForPart : Option Text → Type 0
-AsksForPart source = (input : Text) → source ≡ Some input → (h : RequestHead) × IsHead MostHeadBytes MostHeadLines input h
+AsksForPart source = (input : Text) → source ≡ Some input → (h : RequestHead)
+    × IsHead MostHeadBytes MostHeadLines input h
     × (h.method ≡ codes "GET") × (w : Wanted) × IsRouted (path_of h.target) w

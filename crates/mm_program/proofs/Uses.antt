@@ -119,7 +119,8 @@ module _ {D S : Type 0} (g : Ghosts D) (source : Option (List ℕ)) (image next 
   led_by (asked.Check file) (told, stops, is, on) =
       (leads g image next file.now StopsOld _ _ _ told rest on may).2
   led_by (asked.List file) (declined, work) = (by_work file.now _ _ _ _ (StatusEnds (λ done. 0)) work).5
-  led_by (asked.Show file table id) (declined, inl (refused, is, nothing)) = absurd (nothing_left g next rest nothing may)
+  led_by (asked.Show file table id) (declined, inl (refused, is, nothing)) =
+      absurd (nothing_left g next rest nothing may)
   led_by (asked.Show file table id) (declined, inr (name, work)) = (by_work file.now _ _ _ _ ShowingEnds work).5
   led_by (asked.Migrate file) (told, stops, is, on) =
       let (done, came, led) = leads g image next file.now StopsOld _ _ _ told rest on may in
@@ -128,5 +129,6 @@ module _ {D S : Type 0} (g : Ghosts D) (source : Option (List ℕ)) (image next 
   led_by (asked.Desk file port count page) (told, inl (is, nothing)) = absurd (nothing_left g next rest nothing may)
   led_by (asked.Desk file port count page) (told, inr (inl (why, stops, is, nothing))) =
       absurd (nothing_left g next rest nothing may)
-  led_by (asked.Desk file port count page) (told, inr (inr (key, is, work))) = by_work file.now _ _ _ _ (IsDeskDone port count key (table_of page)) work
+  led_by (asked.Desk file port count page) (told, inr (inr (key, is, work))) = by_work file.now _ _ _ _
+      (IsDeskDone port count key (table_of page)) work
   led_by (asked.Explain answer) (is, nothing) = nothing_left g next rest nothing may

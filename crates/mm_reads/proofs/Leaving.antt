@@ -31,5 +31,6 @@ leaves_then a b c one two = record {
 }
 
 -- a read leaves it
-pub leaves_by : {T : Type 0} (old new : State) (Says : Package → T → Type 0) (r : Result T Fault) → IsRead current old new Says r → LeavesPackage old new
+pub leaves_by : {T : Type 0} (old new : State) (Says : Package → T → Type 0) (r : Result T Fault)
+    → IsRead current old new Says r → LeavesPackage old new
 leaves_by old new Says r it = record { survives = it.survives; seen = it.seen; settled = it.settled }

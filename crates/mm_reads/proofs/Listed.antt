@@ -1,5 +1,6 @@
 -- The list of the tables, from the rows that the query shows.
-use Rattle.std.proofs.Common.{◌≡◌, inl, inr, ℕ, ℤ, Bool, true, false, List, [], ◌∷◌, map, filter, Option, Some, None, codes, refl, sym, ap, subst, ◌∙◌}
+use Rattle.std.proofs.Common.{◌≡◌, inl, inr, ℕ, ℤ, Bool, true, false, List, [], ◌∷◌, map, filter, Option, Some, None}
+use Rattle.std.proofs.Common.{codes, refl, sym, ap, subst, ◌∙◌}
 use Rattle.std.specs.Prelude.{if◌then◌else◌, ◌||◌, ◌&&◌}
 use Rattle.std.specs.Ordering.{is_gt}
 use Rattle.std.specs.List.{AllByRecursion, flat_map}
@@ -45,7 +46,8 @@ use Rattle.mm_reads.proofs.InOrder.{Picks, picked, Enters, entered, all_entered,
 
 -- ---- the answer of a query whose matches are those of some rows, one each
 
-module _ (from : Join) (terms project : List Term) (order : List (Term × Key)) (db : Trees) (params : Row) (rows : List Row) (a : IsAnswer (query from terms project order no_limit) db params rows)
+module _ (from : Join) (terms project : List Term) (order : List (Term × Key)) (db : Trees) (params : Row)
+    (rows : List Row) (a : IsAnswer (query from terms project order no_limit) db params rows)
     (env_of : Row → Env) (xs : List Row) (whole : matches db terms from (params ∷ []) ≡ map env_of xs) where
   abbrev q : Query
   q = query from terms project order no_limit
@@ -57,19 +59,25 @@ module _ (from : Join) (terms project : List Term) (order : List (Term × Key)) 
   InOrder x y = is_gt (output_cmp q (as_output x) (as_output y)) ≡ false
 
   -- the rows in the order of ORDER BY, and what is shown of each
-  pub in_order : (ys : List Row) × IsPermutation xs ys × IsAscending InOrder ys × (rows ≡ map (λ x. eval_all project (env_of x)) ys)
+  pub in_order : (ys : List Row) × IsPermutation xs ys × IsAscending InOrder ys
+      × (rows ≡ map (λ x. eval_all project (env_of x)) ys)
   in_order =
-      let kept : a.kept ≡ map as_output xs = a.distinct ∙ ap (map (output q)) (a.grouped ∙ whole) ∙ map-map (output q) env_of xs in
+      let kept : a.kept ≡ map as_output xs = a.distinct ∙ ap (map (output q)) (a.grouped ∙ whole)
+      ∙ map-map (output q) env_of xs in
       let pulled = pull_back as_output a.kept a.ordered a.same xs kept in (
         pulled.0,
         pulled.1,
-        ascending_from_sorted (λ x y. output_cmp q (as_output x) (as_output y)) (on_total as_output (output_cmp_total q)) pulled.0 (IsSorted-from_map (output_cmp q) as_output pulled.0 (subst (IsSorted (output_cmp q)) pulled.2 a.sorted)),
+        ascending_from_sorted (λ x y. output_cmp q (as_output x) (as_output y))
+            (on_total as_output (output_cmp_total q)) pulled.0
+            (IsSorted-from_map (output_cmp q) as_output pulled.0 (subst (IsSorted (output_cmp q)) pulled.2 a.sorted)),
         a.shown ∙ ap (map (λ (o : Output). o.1)) pulled.2 ∙ map-map (λ (o : Output). o.1) as_output pulled.0,
       )
 
-pub flat_single : {X Y : Type 0} (f : X → List Y) (g : X → Y) (xs : List X) → ((x : X) → Has xs x → f x ≡ g x ∷ []) → flat_map f xs ≡ map g xs
+pub flat_single : {X Y : Type 0} (f : X → List Y) (g : X → Y) (xs : List X) → ((x : X) → Has xs x → f x ≡ g x ∷ [])
+    → flat_map f xs ≡ map g xs
 flat_single f g [] one = refl
-flat_single f g (x ∷ xs) one = let here = one x (inl refl) in let more = flat_single f g xs (λ y there. one y (inr there)) in rw (here, more)
+flat_single f g (x ∷ xs) one = let here = one x (inl refl) in let more =
+    flat_single f g xs (λ y there. one y (inr there)) in rw (here, more)
 
 -- ---- the query
 
@@ -124,7 +132,8 @@ never_null : (t : Text) → Null ≡ Words t → ⊥
 never_null t e = absurd cc
 
 -- the place of a pyramid is that of its contents row
-place_is : (row : Row) (c : Contents) → column row 4 ≡ maybe c.system → column row 5 ≡ maybe c.min_x → column row 6 ≡ maybe c.min_y
+place_is : (row : Row) (c : Contents) → column row 4 ≡ maybe c.system → column row 5 ≡ maybe c.min_x
+    → column row 6 ≡ maybe c.min_y
     → column row 7 ≡ maybe c.max_x → column row 8 ≡ maybe c.max_y
     → (place : Option (ℤ × Box)) → IsShown row place → place ≡ placed c.system c.min_x c.min_y c.max_x c.max_y
 place_is row c system min_x min_y max_x max_y None is = absurd is
@@ -148,13 +157,17 @@ place_by row c Other place is so = so place is
 place_by row c Attributes place is so = is
 place_by row c Media place is so = is
 
-module _ (p : Package) (tables kinds : List Row) (ht : Holds past_rowid contents_row tables p.contents) (hk : Holds past_rowid kind_row kinds p.kinds) (ut : IsTable tables) (uk : IsTable kinds) where
+module _ (p : Package) (tables kinds : List Row) (ht : Holds past_rowid contents_row tables p.contents)
+    (hk : Holds past_rowid kind_row kinds p.kinds) (ut : IsTable tables) (uk : IsTable kinds) where
   -- ---- each row of the contents joins one row
 
-  pub same_test : (r : Row) (k : Text) (c : Contents) → past_rowid r ≡ contents_row k c → filter (joins r) kinds ≡ filter (by_text k) kinds
-  same_test r k c is = ap (λ v. filter (λ s. equal Binary (column s 1) v && true) kinds) (columns_are r (contents_row k c) 0 is)
+  pub same_test : (r : Row) (k : Text) (c : Contents) → past_rowid r ≡ contents_row k c
+      → filter (joins r) kinds ≡ filter (by_text k) kinds
+  same_test r k c is = ap (λ v. filter (λ s. equal Binary (column s 1) v && true) kinds)
+      (columns_are r (contents_row k c) 0 is)
 
-  single : (k : Text) (o : Option Text) (xs : List Row) → Picks parts.kinds kinds p.kinds hk uk k o xs → or_nulls xs ≡ first_or_none xs ∷ []
+  single : (k : Text) (o : Option Text) (xs : List Row) → Picks parts.kinds kinds p.kinds hk uk k o xs
+      → or_nulls xs ≡ first_or_none xs ∷ []
   single k None xs none = ap or_nulls none ∙ ap (λ ys. first_or_none ys ∷ []) (sym none)
   single k (Some kind) xs one = ap or_nulls one.1 ∙ ap (λ ys. first_or_none ys ∷ []) (sym one.1)
 
@@ -162,32 +175,46 @@ module _ (p : Package) (tables kinds : List Row) (ht : Holds past_rowid contents
   one_each r there =
       let at = ht.sound r there in
       let same = same_test r at.0 at.1 at.3 in
-      single at.0 (get p.kinds at.0) (filter (joins r) kinds) (subst (Picks parts.kinds kinds p.kinds hk uk at.0 (get p.kinds at.0)) (sym same) (picked parts.kinds kinds p.kinds hk uk at.0 (get p.kinds at.0) refl))
+      single at.0 (get p.kinds at.0) (filter (joins r) kinds)
+      (subst (Picks parts.kinds kinds p.kinds hk uk at.0 (get p.kinds at.0)) (sym same)
+      (picked parts.kinds kinds p.kinds hk uk at.0 (get p.kinds at.0) refl))
 
   -- the kind that a row shows is the registry's
   pub kind_is : (k : Text) (o : Option Text) (xs : List Row) → Picks parts.kinds kinds p.kinds hk uk k o xs → (t : Text)
       → column (first_or_none xs) 2 ≡ Words t → o ≡ Some t
   kind_is k None xs none t is = absurd (never_null t (ap (λ ys. column (first_or_none ys) 2) (sym none) ∙ is))
   kind_is k (Some kind) xs one t is =
-      ap Some (same_words (sym (columns_are one.0 (kind_row k kind) 1 one.2) ∙ ap (λ ys. column (first_or_none ys) 2) (sym one.1) ∙ is))
+      ap Some (same_words (sym (columns_are one.0 (kind_row k kind) 1 one.2) ∙ ap (λ ys. column (first_or_none ys) 2)
+      (sym one.1) ∙ is))
 
   -- what is told of a row is what the package has
-  told_is : (r : Row) (k : Text) (c : Contents) → past_rowid r ≡ contents_row k c → (e : Entry) → ShowsEntry (shown_row kinds r) e
+  told_is : (r : Row) (k : Text) (c : Contents) → past_rowid r ≡ contents_row k c → (e : Entry)
+      → ShowsEntry (shown_row kinds r) e
       → table_told e ≡ entry_told p (k, c)
   told_is r k c is e it =
       let table = same_words (sym it.table ∙ columns_are r (contents_row k c) 0 is) in
       let got = kind_is k (get p.kinds k) (filter (joins r) kinds)
-      (subst (Picks parts.kinds kinds p.kinds hk uk k (get p.kinds k)) (sym (same_test r k c is)) (picked parts.kinds kinds p.kinds hk uk k (get p.kinds k) refl)) (kind_text e.kind) it.kind in
+      (subst (Picks parts.kinds kinds p.kinds hk uk k (get p.kinds k)) (sym (same_test r k c is))
+      (picked parts.kinds kinds p.kinds hk uk k (get p.kinds k) refl)) (kind_text e.kind) it.kind in
       let identifier = same_words (sym it.identifier ∙ columns_are r (contents_row k c) 2 is) in
       let last_change = same_words (sym it.last_change ∙ columns_are r (contents_row k c) 4 is) in
       let place =
       place_by (shown_row kinds r) c e.kind e.place it.place
-      (place_is (shown_row kinds r) c (columns_are r (contents_row k c) 9 is) (columns_are r (contents_row k c) 5 is) (columns_are r (contents_row k c) 6 is) (columns_are r (contents_row k c) 7 is) (columns_are r (contents_row k c) 8 is))
+      (place_is (shown_row kinds r) c (columns_are r (contents_row k c) 9 is) (columns_are r (contents_row k c) 5 is)
+      (columns_are r (contents_row k c) 6 is) (columns_are r (contents_row k c) 7 is)
+      (columns_are r (contents_row k c) 8 is))
       ∙ ap (λ o. if tiled o then placed c.system c.min_x c.min_y c.max_x c.max_y else None) (sym got) in
-      λ i. record { table = table i; kind = sym got i; identifier = identifier i; last_change = last_change i; place = place i }
+      λ i. record {
+        table = table i;
+        kind = sym got i;
+        identifier = identifier i;
+        last_change = last_change i;
+        place = place i;
+      }
 
   told_all : (ys : List Row) (all : AllByRecursion (Enters parts.contents tables p.contents ht ut) ys) (es : List Entry)
-      → ShowsAll (map (shown_row kinds) ys) es → map table_told es ≡ map (entry_told p) (entered parts.contents tables p.contents ht ut ys all)
+      → ShowsAll (map (shown_row kinds) ys) es
+      → map table_told es ≡ map (entry_told p) (entered parts.contents tables p.contents ht ut ys all)
   told_all [] all es none = ap (map table_told) none
   told_all (y ∷ ys) all [] it = absurd it
   told_all (y ∷ ys) all (e ∷ es) it =
@@ -199,18 +226,27 @@ module _ (p : Package) (tables kinds : List Row) (ht : Holds past_rowid contents
 
   module _ (db : Trees) (here : db 1 ≡ tables) (there : db 13 ≡ kinds) where
     matched : matches db [] joined ([] ∷ []) ≡ map (env_at kinds) tables
-    matched = rw (here, there) (flat_single (λ (r : Row). flat_map (λ (s : Row). ([] ∷ r ∷ s ∷ []) ∷ []) (or_nulls (filter (joins r) kinds))) (env_at kinds) tables (λ r at. ap (flat_map (λ (s : Row). ([] ∷ r ∷ s ∷ []) ∷ [])) (one_each r at)))
+    matched = rw (here, there) (flat_single
+        (λ (r : Row). flat_map (λ (s : Row). ([] ∷ r ∷ s ∷ []) ∷ []) (or_nulls (filter (joins r) kinds))) (env_at kinds)
+        tables (λ r at. ap (flat_map (λ (s : Row). ([] ∷ r ∷ s ∷ []) ∷ [])) (one_each r at)))
 
     -- the order of the rows is that of the names
-    rises_as : (r s : Row) (k l : Text) (c d : Contents) → past_rowid r ≡ contents_row k c → past_rowid s ≡ contents_row l d
-        → is_gt (output_cmp (query joined [] shown by_name no_limit) (output (query joined [] shown by_name no_limit) (env_at kinds r)) (output (query joined [] shown by_name no_limit) (env_at kinds s))) ≡ false → is_gt (text_cmp k l) ≡ false
+    rises_as : (r s : Row) (k l : Text) (c d : Contents) → past_rowid r ≡ contents_row k c
+        → past_rowid s ≡ contents_row l d
+        → is_gt (output_cmp (query joined [] shown by_name no_limit)
+        (output (query joined [] shown by_name no_limit) (env_at kinds r))
+        (output (query joined [] shown by_name no_limit) (env_at kinds s))) ≡ false → is_gt (text_cmp k l) ≡ false
     rises_as r s k l c d is also low =
-        ap is_gt (sym (value_cmp-Text k l) ∙ sym (then-Equal (value_cmp (Words k) (Words l)))) ∙ rw (columns_are r (contents_row k c) 0 is, columns_are s (contents_row l d) 0 also) at low
+        ap is_gt (sym (value_cmp-Text k l) ∙ sym (then-Equal (value_cmp (Words k) (Words l))))
+        ∙ rw (columns_are r (contents_row k c) 0 is, columns_are s (contents_row l d) 0 also) at low
 
-    pub lists_tables : (rows : List Row) → IsAnswer (query joined [] shown by_name no_limit) db [] rows → (es : List Entry) → ShowsAll rows es
+    pub lists_tables : (rows : List Row) → IsAnswer (query joined [] shown by_name no_limit) db [] rows
+        → (es : List Entry) → ShowsAll rows es
         → ListsTables p es
     lists_tables rows a es it =
         let found = in_order joined [] shown by_name db [] rows a (env_at kinds) tables matched in
-        let all = all_entered parts.contents tables p.contents ht ut (InOrder joined [] shown by_name db [] rows a (env_at kinds) tables matched) rises_as found.0 found.1 in
+        let all = all_entered parts.contents tables p.contents ht ut
+        (InOrder joined [] shown by_name db [] rows a (env_at kinds) tables matched) rises_as found.0 found.1 in
         told_all found.0 all es (subst (λ rs. ShowsAll rs es) found.3 it)
-        ∙ ap (map (entry_told p)) (sym (entries_are parts.contents tables p.contents ht ut (InOrder joined [] shown by_name db [] rows a (env_at kinds) tables matched) rises_as found.0 found.1 found.2))
+        ∙ ap (map (entry_told p)) (sym (entries_are parts.contents tables p.contents ht ut
+        (InOrder joined [] shown by_name db [] rows a (env_at kinds) tables matched) rises_as found.0 found.1 found.2))

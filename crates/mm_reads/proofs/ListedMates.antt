@@ -1,5 +1,6 @@
 -- The list of an item's mapping rows, from the rows that the query shows.
-use Rattle.std.proofs.Common.{◌≡◌, ◌≢◌, inl, inr, ℤ, true, false, cond, ◌&&◌, List, [], ◌∷◌, map, Option, Some, None, option_map, refl, sym, ap, subst, ◌∙◌}
+use Rattle.std.proofs.Common.{◌≡◌, ◌≢◌, inl, inr, ℤ, true, false, cond, ◌&&◌, List, [], ◌∷◌, map, Option, Some, None}
+use Rattle.std.proofs.Common.{option_map, refl, sym, ap, subst, ◌∙◌}
 use Rattle.std.specs.Prelude.{T, ⊤}
 use Rattle.std.specs.declared.cmp.Ordering.{Ordering}
 use Rattle.std.specs.declared.cmp.Ordering.TheVariants.{Less, Equal, Greater}
@@ -38,7 +39,8 @@ use Rattle.mm_layout.proofs.Joined.{base_tells}
 use Rattle.mm_reads.specs.Related.{is_from, mapping_rows, mate, mate_told, ListsMates, ShowsRelated}
 use Rattle.mm_reads.proofs.Asked.{terms, asked}
 use Rattle.mm_reads.proofs.Distinct.{distinct_map}
-use Rattle.mm_reads.proofs.Mates.{IsMatch, IsMate, out, ties, env, passing, mate_of, mate_key, cmp_is, one_key, match_of, beside, beside_has, has_beside, all_apart}
+use Rattle.mm_reads.proofs.Mates.{IsMatch, IsMate, out, ties, env, passing, mate_of, mate_key, cmp_is, one_key}
+use Rattle.mm_reads.proofs.Mates.{match_of, beside, beside_has, has_beside, all_apart}
 use Rattle.mm_reads.proofs.InOrder.{turned}
 
 flips : (a b : Output) → ties a b ≡ ties b a
@@ -76,7 +78,8 @@ module _ (p : Package) (table : Text) (id : ℤ) where
   below o a [] all low off = tt
   below o a (x ∷ xs) all low off = and_both _ _ (less o x a all.0 low.0 off.0) (below o a xs all.1 low.1 off.1)
 
-  rises : (xs : List Output) (all : AllByRecursion Is xs) → IsAscending AtMost xs → IsDistinct ties xs → T (is_sorted pairing_cmp (entered xs all))
+  rises : (xs : List Output) (all : AllByRecursion Is xs) → IsAscending AtMost xs → IsDistinct ties xs
+      → T (is_sorted pairing_cmp (entered xs all))
   unfolding IsDistinct
   rises [] all low off = tt
   rises (x ∷ xs) all low off = and_both _ _ (below x all.0 xs all.1 low.0 off.0) (rises xs all.1 low.1 off.1)
@@ -96,13 +99,18 @@ module _ (p : Package) (table : Text) (id : ℤ) where
       go : (o : Option ⊤) → at q ≡ o → None ≡ o
       go None is = refl
       go (Some v) is = absurd (so v is).1
-  find_entered q (x ∷ xs) all so = elim (same_key pairing_keys q all.0.key) as (λ _. find pairing_cmp q (entered (x ∷ xs) all) ≡ at q) [
-    | inl same ↦ ap (λ b. cond b (Some tt) (find pairing_cmp q (entered xs all.1))) same.1 ∙ sym (ap at same.0 ∙ all.0.stands)
-    | inr off ↦ ap (λ b. cond b (Some tt) (find pairing_cmp q (entered xs all.1))) off.1 ∙ find_entered q xs all.1 (λ v is. later off.0 (so v is))
-  ]
+  find_entered q (x ∷ xs) all so = elim (same_key pairing_keys q all.0.key) as
+      (λ _. find pairing_cmp q (entered (x ∷ xs) all) ≡ at q) [
+        | inl same ↦ ap (λ b. cond b (Some tt) (find pairing_cmp q (entered xs all.1))) same.1
+            ∙ sym (ap at same.0 ∙ all.0.stands)
+        | inr off ↦ ap (λ b. cond b (Some tt) (find pairing_cmp q (entered xs all.1))) off.1
+            ∙ find_entered q xs all.1 (λ v is. later off.0 (so v is))
+      ]
     where
       later : (q ≢ all.0.key) → Shown (x ∷ xs) q → Shown xs q
-      later off (o, inl same, a, is) = absurd (off (sym is ∙ one_key p table id o x a all.0 (ap (ties o) (sym same) ∙ ap is_eq (tied_itself (output_cmp_total asked) o))))
+      later off (o, inl same, a, is) =
+          absurd (off (sym is ∙ one_key p table id o x a all.0
+          (ap (ties o) (sym same) ∙ ap is_eq (tied_itself (output_cmp_total asked) o))))
       later off (o, inr there, a, is) = (o, there, a, is)
 
   -- ---- what is told of them
@@ -117,7 +125,8 @@ module _ (p : Package) (table : Text) (id : ℤ) where
       let mated = ap Some other ∙ sym (ap (option_map (λ (r : Relation). r.related)) a.related) in
       λ i. record { mapping = mapping i; name = named i; table = mated i; id = number i }
 
-  told_all : (xs : List Output) (all : AllByRecursion Is xs) (items : List Related) → ShowsAll (map (λ (o : Output). o.1) xs) items
+  told_all : (xs : List Output) (all : AllByRecursion Is xs) (items : List Related)
+      → ShowsAll (map (λ (o : Output). o.1) xs) items
       → map mate_told items ≡ map (mate p) (entered xs all)
   told_all [] all items none = ap (map mate_told) none
   told_all (x ∷ xs) all [] it = absurd it
@@ -128,7 +137,8 @@ module _ (p : Package) (table : Text) (id : ℤ) where
 
   -- ---- the whole list
 
-  module _ (rels maps : List Row) (hr : Holds past_id relation_row rels p.relations) (hm : Holds past_rowid pairing_row maps p.pairings) (up_rels : IsTable rels) (up_maps : IsTable maps)
+  module _ (rels maps : List Row) (hr : Holds past_id relation_row rels p.relations)
+      (hm : Holds past_rowid pairing_row maps p.pairings) (up_rels : IsTable rels) (up_maps : IsTable maps)
       (db : Trees) (here : db 10 ≡ rels) (there : db 21 ≡ maps) where
     abbrev params : Row
     params = Words table ∷ Int id ∷ []
@@ -143,36 +153,64 @@ module _ (p : Package) (table : Text) (id : ℤ) where
     env_is x h =
         let r = has_flat (beside p table id rels maps hr hm) rels x h in
         let m = beside_has p table id rels maps hr hm r.0 x r.2 in
-        subst (λ e. Is (out e)) (sym m.3) (mate_of p table id r.0 m.0 (match_of p table id rels maps hr hm r.0 m.0 r.1 m.1 m.2))
+        subst (λ e. Is (out e)) (sym m.3)
+        (mate_of p table id r.0 m.0 (match_of p table id rels maps hr hm r.0 m.0 r.1 m.1 m.2))
 
     shown_of : (q : Pairing) (v : ⊤) → at q ≡ Some v → Shown (map out envs) q
     shown_of q v is =
         let a = after_retain pairing_keys p.pairings (is_from p table id) q v is in
-        let s = at_true (λ (r : Relation). same_text r.base table && same_number q.base_id id) (get p.relations q.mapping) a.0 in
+        let s = at_true (λ (r : Relation). same_text r.base table && same_number q.base_id id)
+        (get p.relations q.mapping) a.0 in
         let parts = and_parts (same_text s.0.base table) (same_number q.base_id id) s.2 in
         let r = hr.complete q.mapping s.0 s.1 in
         let m = hm.complete q v a.1 in
-        let inside = and_from (same_number q.base_id id) (same_text s.0.base table && true) parts.1 (and_from (same_text s.0.base table) true parts.0 refl) in
+        let inside = and_from (same_number q.base_id id) (same_text s.0.base table && true) parts.1
+        (and_from (same_text s.0.base table) true parts.0 refl) in
         let hit : passing p table id r.0 m.0 ≡ true =
-        base_tells table id r.0 m.0 q.mapping s.0 q r.2 m.2 ∙ and_from (same_text q.mapping q.mapping) (same_number q.base_id id && (same_text s.0.base table && true)) (same_itself texts q.mapping) inside in
-        let it : IsMatch p table id r.0 m.0 = record { key = q; relation = s.0; of_relation = r.2; of_pairing = m.2; related = s.1; paired = a.1; based = are_same numbers q.base_id id parts.1; from = a.0 } in (
+        base_tells table id r.0 m.0 q.mapping s.0 q r.2 m.2
+        ∙ and_from (same_text q.mapping q.mapping) (same_number q.base_id id && (same_text s.0.base table && true))
+        (same_itself texts q.mapping) inside in
+        let it : IsMatch p table id r.0 m.0 =
+        record {
+          key = q;
+          relation = s.0;
+          of_relation = r.2;
+          of_pairing = m.2;
+          related = s.1;
+          paired = a.1;
+          based = are_same numbers q.base_id id parts.1;
+          from = a.0;
+        } in (
           out (env p table id r.0 m.0),
-          mapped_has out envs (env p table id r.0 m.0) (flat_has (beside p table id rels maps hr hm) rels r.0 (env p table id r.0 m.0) r.1 (has_beside p table id rels maps hr hm r.0 m.0 m.1 hit)),
+          mapped_has out envs (env p table id r.0 m.0)
+              (flat_has (beside p table id rels maps hr hm) rels r.0 (env p table id r.0 m.0) r.1
+              (has_beside p table id rels maps hr hm r.0 m.0 m.1 hit)),
           mate_of p table id r.0 m.0 it,
           mate_key p table id r.0 m.0 it,
         )
 
-    pub lists_mates : (rows : List Row) → IsAnswer asked db params rows → (items : List Related) → ShowsAll rows items → ListsMates p table id items
+    pub lists_mates : (rows : List Row) → IsAnswer asked db params rows → (items : List Related) → ShowsAll rows items
+        → ListsMates p table id items
     lists_mates rows a items it =
         let kept : a.kept ≡ map out envs = a.distinct ∙ ap (map out) (a.grouped ∙ matched) in
         let same : IsPermutation (map out envs) a.ordered = subst (λ k. IsPermutation k a.ordered) kept a.same in
-        let all = all_from Is a.ordered (λ o in_order. let e = has_mapped out envs o (has_permuted (map out envs) a.ordered o same in_order) in subst Is (sym e.2) (env_is e.0 e.1)) in
+        let all = all_from Is a.ordered
+        (λ o in_order. let e = has_mapped out envs o (has_permuted (map out envs) a.ordered o same in_order) in subst Is
+        (sym e.2) (env_is e.0 e.1)) in
         let low = ascending_from_sorted (output_cmp asked) (output_cmp_total asked) a.ordered a.sorted in
-        let off = IsDistinct-IsPermutation ties flips (map out envs) a.ordered same (distinct_map out ties envs (all_apart p table id rels maps hr hm up_rels up_maps)) in
+        let off = IsDistinct-IsPermutation ties flips (map out envs) a.ordered same
+        (distinct_map out ties envs (all_apart p table id rels maps hr hm up_rels up_maps)) in
         let up = rises a.ordered all low off in
         let found : (q : Pairing) → find pairing_cmp q (entered a.ordered all) ≡ at q =
-        λ q. find_entered q a.ordered all (λ v is. let s = shown_of q v is in (s.0, has_permuted a.ordered (map out envs) s.0 (IsPermutation-sym (map out envs) a.ordered same) s.1, s.2, s.3)) in
+        λ q. find_entered q a.ordered all
+        (λ v is. let s = shown_of q v is in (
+          s.0,
+          has_permuted a.ordered (map out envs) s.0 (IsPermutation-sym (map out envs) a.ordered same) s.1,
+          s.2,
+          s.3,
+        )) in
         let are : mapping_rows p table id ≡ entered a.ordered all =
-        same_entries pairing_cmp pairing_keys.total pairing_keys.exact (mapping_rows p table id) (entered a.ordered all) (entries_sorted (retain_keys p.pairings (is_from p table id))) up
+        same_entries pairing_cmp pairing_keys.total pairing_keys.exact (mapping_rows p table id) (entered a.ordered all)
+        (entries_sorted (retain_keys p.pairings (is_from p table id))) up
         (λ q. sym (get-entries (retain_keys p.pairings (is_from p table id)) q) ∙ sym (found q)) in
         told_all a.ordered all items (subst (λ rs. ShowsAll rs items) a.shown it) ∙ ap (map (mate p)) (sym are)

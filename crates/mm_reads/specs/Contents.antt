@@ -1,5 +1,6 @@
 -- The list of the tables of a package, and what the rows show that it is read from.
-use Rattle.std.specs.Prelude.{◌≡◌, ℤ, Bool, true, if◌then◌else◌, List, [], ◌∷◌, ◌++◌, map, Option, Some, None, Result, MatchResult}
+use Rattle.std.specs.Prelude.{◌≡◌, ℤ, Bool, true, if◌then◌else◌, List, [], ◌∷◌, ◌++◌, map, Option, Some, None, Result}
+use Rattle.std.specs.Prelude.{MatchResult}
 use Rattle.std.specs.FinMap.{get, entries}
 use Rattle.sqlite.specs.declared.types.Value.TheVariants.{Int, Text as Words}
 use Rattle.sqlite.specs.Order.{Row, column}
@@ -23,7 +24,8 @@ pub record Listed : Type 0 where
 
 -- a system and an extent, where all of it stands
 abbrev pub placed : Option ℤ → Option ℤ → Option ℤ → Option ℤ → Option ℤ → Option (ℤ × Box)
-placed (Some system) (Some min_x) (Some min_y) (Some max_x) (Some max_y) = Some (system, record { min_x = min_x; min_y = min_y; max_x = max_x; max_y = max_y })
+placed (Some system) (Some min_x) (Some min_y) (Some max_x) (Some max_y) =
+    Some (system, record { min_x = min_x; min_y = min_y; max_x = max_x; max_y = max_y })
 placed _ _ _ _ _ = None
 
 -- a table as the package has it; only pyramids have a place
@@ -38,7 +40,13 @@ entry_told p (table, c) = record {
 
 -- a table as it is told, with its kind as the registry writes it
 abbrev pub table_told : Entry → Listed
-table_told e = record { table = e.table; kind = Some (kind_text e.kind); identifier = e.identifier; last_change = e.last_change; place = e.place }
+table_told e = record {
+  table = e.table;
+  kind = Some (kind_text e.kind);
+  identifier = e.identifier;
+  last_change = e.last_change;
+  place = e.place;
+}
 
 -- the entries are the tables of the contents, by rising name
 abbrev pub ListsTables : Package → List Entry → Type 0
@@ -76,4 +84,5 @@ pub record ShowsEntry (row : Row) (e : Entry) : Type 0 where
 
 -- one more entry is gathered, which the row shows
 abbrev pub GathersTables : List Entry → Row → List Entry → Result Bool Fault → Type 0
-GathersTables old row new result = MatchResult result (λ goes. (goes ≡ true) × (e : Entry) × ShowsEntry row e × (new ≡ old ++ e ∷ [])) IsStoreFault
+GathersTables old row new result = MatchResult result (λ goes. (goes ≡ true) × (e : Entry) × ShowsEntry row e
+    × (new ≡ old ++ e ∷ [])) IsStoreFault

@@ -11,7 +11,8 @@ use Rattle.mm_reads.specs.Lines.{table_text, open_text, published_text}
 abbrev pub by_kind : {A : Type 0} → Text → A → A → A → Option A
 by_kind kind tiles rows media =
     if same_text kind (kind_text Two) || same_text kind (kind_text Other) then Some tiles else
-    (if same_text kind (kind_text Attributes) then Some rows else (if same_text kind (kind_text Media) then Some media else None))
+    (if same_text kind (kind_text Attributes) then Some rows
+    else (if same_text kind (kind_text Media) then Some media else None))
 
 -- how many tiles the table has
 abbrev pub tile_count : Package → Text → ℕ
@@ -31,7 +32,8 @@ kind_of p table = unwrap_or (get p.kinds table) []
 
 -- how many tiles, rows or media the table has
 abbrev pub count_of : Package → Text → ℕ
-count_of p table = unwrap_or (by_kind (kind_of p table) (tile_count p table) (row_count p table) (medium_count p table)) 0
+count_of p table = unwrap_or (by_kind (kind_of p table) (tile_count p table) (row_count p table) (medium_count p table))
+    0
 
 -- the line of a table, by its name and its contents row
 abbrev pub table_line : Package → Text × Contents → Text
@@ -39,7 +41,8 @@ table_line p (table, c) = table_text table (kind_of p table) (count_of p table) 
 
 -- the line of an edition, by its name and its state
 abbrev pub edition_line : Package → Text × Text → Text
-edition_line p (name, state) = if same_text state open_state then open_text name (piece_count p name) else published_text name
+edition_line p (name, state) = if same_text state open_state then open_text name (piece_count p name)
+    else published_text name
 
 -- by rising name
 abbrev pub table_lines : Package → Text

@@ -1,5 +1,6 @@
 -- What an item is related to, and what the rows show that it is read from.
-use Rattle.std.specs.Prelude.{◌≡◌, ℤ, Bool, true, false, ◌||◌, ◌&&◌, List, [], ◌∷◌, ◌++◌, map, Option, Some, option_map, Result, MatchResult, MatchOption, ⊤}
+use Rattle.std.specs.Prelude.{◌≡◌, ℤ, Bool, true, false, ◌||◌, ◌&&◌, List, [], ◌∷◌, ◌++◌, map, Option, Some, option_map}
+use Rattle.std.specs.Prelude.{Result, MatchResult, MatchOption, ⊤}
 use Rattle.std.specs.FinMap.{get, contains_key, entries, retain_keys}
 use Rattle.std.specs.declared.vec.Vec.{Vec}
 use Rattle.sqlite.specs.declared.types.Value.TheVariants.{Int, Text as Words}
@@ -19,7 +20,8 @@ is_item p table id = contains_key p.rows (item table id) || contains_key p.media
 
 -- the mapping row has this item as its base
 abbrev pub is_from : Package → Text → ℤ → Pairing → Bool
-is_from p table id k = at_value (λ (r : Relation). same_text r.base table && same_number k.base_id id) (get p.relations k.mapping)
+is_from p table id k = at_value (λ (r : Relation). same_text r.base table && same_number k.base_id id)
+    (get p.relations k.mapping)
 
 -- the mapping rows that have this item as their base, by rising mapping and related id
 abbrev pub mapping_rows : Package → Text → ℤ → List (Pairing × ⊤)
@@ -51,7 +53,8 @@ ListsMates p table id items = map mate_told items ≡ map (mate p) (mapping_rows
 
 -- None exactly where there is no such item
 abbrev pub TellsMates : {A : Type 0} → Package → Text → ℤ → Option (Vec Related A) → Type 0
-TellsMates p table id found = MatchOption found (is_item p table id ≡ false) (λ items. (is_item p table id ≡ true) × ListsMates p table id items.items)
+TellsMates p table id found = MatchOption found (is_item p table id ≡ false)
+    (λ items. (is_item p table id ≡ true) × ListsMates p table id items.items)
 
 -- ---- the rows
 
@@ -64,4 +67,5 @@ pub record ShowsRelated (row : Row) (r : Related) : Type 0 where
 
 -- one more item is gathered, which the row shows
 abbrev pub GathersMates : List Related → Row → List Related → Result Bool Fault → Type 0
-GathersMates old row new result = MatchResult result (λ goes. (goes ≡ true) × (r : Related) × ShowsRelated row r × (new ≡ old ++ r ∷ [])) IsStoreFault
+GathersMates old row new result = MatchResult result (λ goes. (goes ≡ true) × (r : Related) × ShowsRelated row r
+    × (new ≡ old ++ r ∷ [])) IsStoreFault

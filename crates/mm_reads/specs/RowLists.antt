@@ -1,5 +1,6 @@
 -- The rows of an attribute table from an id on, and what the rows of a query show that they are read from.
-use Rattle.std.specs.Prelude.{◌≡◌, ◌↔◌, ℕ, ◌<◌, ℤ, Bool, true, false, ◌&&◌, List, [], ◌∷◌, ◌++◌, map, take, length, Option, Result, MatchResult, MatchOption, IsTrue}
+use Rattle.std.specs.Prelude.{◌≡◌, ◌↔◌, ℕ, ◌<◌, ℤ, Bool, true, false, ◌&&◌, List, [], ◌∷◌, ◌++◌, map, take, length}
+use Rattle.std.specs.Prelude.{Option, Result, MatchResult, MatchOption, IsTrue}
 use Rattle.std.specs.Ordering.{is_ge, int_cmp}
 use Rattle.std.specs.FinMap.{entries, retain_keys}
 use Rattle.std.specs.declared.vec.Vec.{Vec}
@@ -49,7 +50,8 @@ ListsRows p table first items = map numbered_told items ≡ first_rows p table f
 
 -- None exactly where there is no attribute table of this name
 abbrev pub TellsRows : {A : Type 0} → Package → Text → ℤ → Option (Vec (ℤ × RowTold) A) → Type 0
-TellsRows p table first found = MatchOption found (lists_rows p table ≡ false) (λ items. (lists_rows p table ≡ true) × ListsRows p table first items.items)
+TellsRows p table first found = MatchOption found (lists_rows p table ≡ false)
+    (λ items. (lists_rows p table ≡ true) × ListsRows p table first items.items)
 
 -- ---- the rows
 
@@ -62,4 +64,5 @@ pub record ShowsNumbered (row : Row) (e : ℤ × RowTold) : Type 0 where
 
 -- one more row is gathered, which the row shows; the walk goes on where there is room for another
 abbrev pub GathersRows : List (ℤ × RowTold) → Row → List (ℤ × RowTold) → Result Bool Fault → Type 0
-GathersRows old row new result = MatchResult result (λ goes. (IsTrue goes ↔ length new < MostRows) × (e : ℤ × RowTold) × ShowsNumbered row e × (new ≡ old ++ e ∷ [])) IsStoreFault
+GathersRows old row new result = MatchResult result (λ goes. (IsTrue goes ↔ length new < MostRows) × (e : ℤ × RowTold)
+    × ShowsNumbered row e × (new ≡ old ++ e ∷ [])) IsStoreFault

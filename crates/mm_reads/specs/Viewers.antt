@@ -10,7 +10,8 @@ use Rattle.mm_store.specs.Seen.{IsSeenAs}
 use Rattle.mm_store.specs.Stands.{IsSettled}
 use Rattle.mm_store.specs.Statements.{CommitsNothing}
 
--- It reads as the package that it read as, is settled where it was, and what a crash may leave is what it might have left before.
+-- It reads as the package that it read as, is settled where it was, and what a crash may leave is what it might have
+-- left before.
 pub record LeavesPackage (old new : State) : Type 0 where
   pub survives : CommitsNothing old new
   pub seen : HasCleanDisk new → (p : Package) → IsSeenAs current old p → IsSeenAs current new p
@@ -29,8 +30,8 @@ ShowsValue shown value (Err fault) = ⊤
 abbrev pub ShowsPart : {A B : Type 0} → (Package → Type 0) → (A → B) → (Package → B) → Result A Fault → Type 0
 ShowsPart on shown part result = (p : Package) → on p → ShowsValue shown (part p) result
 
--- A viewer that has failed answers 92 and nothing else, as a session that has to be opened again does; another 90 for want of
--- memory, or 91 where the store fails.
+-- A viewer that has failed answers 92 and nothing else, as a session that has to be opened again does; another 90 for
+-- want of memory, or 91 where the store fails.
 abbrev pub IsViewFault : Bool → Fault → Type 0
 IsViewFault failed fault = ((failed ≡ false) × ((fault.0 ≡ memory.0) ⊎ (fault.0 ≡ store.0)))
     ⊎ ((failed ≡ true) × (fault.0 ≡ reopen.0))

@@ -34,7 +34,8 @@ SendsLine old new line (Err fault) = (fault ≡ unwritten) × (new.failed ≡ tr
 abbrev pub TakesLine : (Row → List ℕ → Type 0) → Written → Written → Row → Result Bool Fault → Type 0
 TakesLine Shows old new row (Ok goes) = (line : List ℕ) × Shows row line × SendsLine old new line (Ok goes)
 TakesLine Shows old new row (Err fault) =
-    (IsStoreFault fault × (new.contents ≡ old.contents) × (new.failed ≡ old.failed)) ⊎ ((line : List ℕ) × Shows row line × SendsLine old new line (Err fault))
+    (IsStoreFault fault × (new.contents ≡ old.contents) × (new.failed ≡ old.failed))
+    ⊎ ((line : List ℕ) × Shows row line × SendsLine old new line (Err fault))
 
 -- ---- the whole text
 
@@ -46,16 +47,22 @@ IsWritten old new text (Err fault) = IsBegun old new text
 -- 97 is answered exactly where the writer failed, and else 90 or 91
 abbrev pub ListingTellsWriter : Bool → Bool → Result (Unit {0}) Fault → Type 0
 ListingTellsWriter before failed (Ok done) = failed ≡ before
-ListingTellsWriter before failed (Err fault) = (IsStoreFault fault × (failed ≡ before)) ⊎ ((fault ≡ unwritten) × (failed ≡ true))
+ListingTellsWriter before failed (Err fault) = (IsStoreFault fault × (failed ≡ before))
+    ⊎ ((fault ≡ unwritten) × (failed ≡ true))
 
--- It commits nothing, leaves the connection reading as before, and settled where it was, and writes the text of the package that it reads as.
-pub record IsListed (profile : Profile) (text : Package → List ℕ) (old new : State) (held holds : Written) (result : Result (Unit {0}) Fault) : Type 0 where
+-- It commits nothing, leaves the connection reading as before, and settled where it was, and writes the text of the
+-- package that it reads as.
+pub record IsListed (profile : Profile) (text : Package → List ℕ) (old new : State) (held holds : Written)
+    (result : Result (Unit {0}) Fault) : Type 0 where
   pub survives : CommitsNothing old new
   pub seen : HasCleanDisk new → (p : Package) → IsSeenAs profile old p → IsSeenAs profile new p
   pub settled : HasCleanDisk new → (p : Package) → IsSettled profile old p → IsSettled profile new p
-  pub written : HasCleanDisk new → (p : Package) → IsSeenAs profile old p → IsWritten held.contents holds.contents (text p) result
+  pub written : HasCleanDisk new → (p : Package) → IsSeenAs profile old p
+      → IsWritten held.contents holds.contents (text p) result
   pub writer : ListingTellsWriter held.failed holds.failed result
 
 -- the same of a connection, whatever the profile is
-abbrev pub Lists : {S : Type 0} → Ghosts S → Held S → Held S → (Package → List ℕ) → Written → Written → Result (Unit {0}) Fault → Type 0
-Lists g old new text before after result = (profile : Profile) → IsListed profile text (state g old) (state g new) before after result
+abbrev pub Lists : {S : Type 0} → Ghosts S → Held S → Held S → (Package → List ℕ) → Written → Written
+    → Result (Unit {0}) Fault → Type 0
+Lists g old new text before after result = (profile : Profile)
+    → IsListed profile text (state g old) (state g new) before after result

@@ -31,7 +31,8 @@ EndsShown v (Some x) = (r : Relation) × (v ≡ Some r) × (column x 0 ≡ Words
 abbrev shown_row : Text → Row → Row
 shown_row mapping = shows (col 1 2 ∷ col 1 4 ∷ []) (Words mapping ∷ [])
 
-ends_found : (p : Package) (mapping : Text) (rows : List Row) → Holds past_id relation_row rows p.relations → (first : Option Row)
+ends_found : (p : Package) (mapping : Text) (rows : List Row) → Holds past_id relation_row rows p.relations
+    → (first : Option Row)
     → FindsRow (by_mapping mapping) (shown_row mapping) rows first → EndsShown (get p.relations mapping) first
 ends_found p mapping rows h None found = finds_none parts.relations rows p.relations h mapping (shown_row mapping) found
 ends_found p mapping rows h (Some x) found =
@@ -47,13 +48,15 @@ pub ends_look : {S : Type 0} {g : Ghosts S} {a b : Transaction S} (mapping : Tex
     → AsksFirst g a b text.ends_of_relation given (λ (it : Option Row) first. it ≡ first) result
     → Looks g a b (λ p found. EndsShown (get p.relations mapping) found) result
 ends_look {g = g} {a = a} mapping {given = given} same h = looks_first h (λ x first ready shown gives.
-    let read = selects_one _ _ _ _ _ _ statement.ends_of_relation _ _ ready.schema_is (Words mapping ∷ []) given same first shown in (
+    let read = selects_one _ _ _ _ _ _ statement.ends_of_relation _ _ ready.schema_is (Words mapping ∷ []) given same
+    first shown in (
       read.0,
       λ version p h. subst (EndsShown (get p.relations mapping)) (sym gives)
           (ends_found p mapping (seen (state g a.conn.now) 10) h.relations first read.1),
     ))
 
-pub ends_told : (v : Option Relation) (x : Row) → EndsShown v (Some x) → (one two : Text) → column x 0 ≡ Words one → column x 1 ≡ Words two
+pub ends_told : (v : Option Relation) (x : Row) → EndsShown v (Some x) → (one two : Text) → column x 0 ≡ Words one
+    → column x 1 ≡ Words two
     → option_map ends v ≡ Some (one, two)
 ends_told v x shown one two a b =
     let base : Words shown.0.base ≡ Words one = sym shown.2 ∙ a in

@@ -20,4 +20,5 @@ both_bytes pair = (string_bytes pair.0, string_bytes pair.1)
 -- which number the ends of a mapping row lack something for
 abbrev pub lacks : Package → Text × Text → ℤ → ℤ → Option ℕ
 lacks p tables base_id related_id =
-    least ((NO_ROW, lacks_row p tables.0 base_id || lacks_row p tables.1 related_id) ∷ (NO_MEDIA_ITEM, lacks_medium p tables.0 base_id || lacks_medium p tables.1 related_id) ∷ [])
+    least ((NO_ROW, lacks_row p tables.0 base_id || lacks_row p tables.1 related_id)
+    ∷ (NO_MEDIA_ITEM, lacks_medium p tables.0 base_id || lacks_medium p tables.1 related_id) ∷ [])

@@ -45,4 +45,5 @@ text_of word =
 
 -- it is a part of the text of the entry that has this name
 abbrev pub IsOfItsText : Text → Text → Type 0
-IsOfItsText word part = (text : Text) × (text_of word ≡ Some text) × (from : ℕ) × (to : ℕ) × (part ≡ drop from (take to text))
+IsOfItsText word part = (text : Text) × (text_of word ≡ Some text) × (from : ℕ) × (to : ℕ)
+    × (part ≡ drop from (take to text))

@@ -12,7 +12,8 @@ use Rattle.mm_rules.specs.Texts as text
 use Rattle.mm_walk.proofs.Quiet.{IsQuiet}
 use Rattle.mm_walk.proofs.Terms.{equals}
 
-pub contents_systems : IsQuery schema text.contents_systems (inner 1 (left 0 (equals 2 0 1 10 ∷ []) (left 13 (equals 3 1 1 1 ∷ []) end))) [] (col 1 10 ∷ col 2 0 ∷ col 3 2 ∷ [])
+pub contents_systems : IsQuery schema text.contents_systems
+    (inner 1 (left 0 (equals 2 0 1 10 ∷ []) (left 13 (equals 3 1 1 1 ∷ []) end))) [] (col 1 10 ∷ col 2 0 ∷ col 3 2 ∷ [])
     ((col 1 1, ascending Binary) ∷ []) (codes "srs_id" ∷ codes "srs_id" ∷ codes "kind" ∷ [])
 unfolding understood everything
 contents_systems = record { compiled = refl; plain = (refl, refl); unlisted = refl }
@@ -21,7 +22,8 @@ pub quiet_contents_systems : IsQuiet text.contents_systems
 unfolding everything
 quiet_contents_systems = λ schema base. refl
 
-pub set_systems : IsQuery schema text.set_systems (inner 4 (left 0 (equals 2 0 1 2 ∷ []) (left 13 (equals 3 1 1 1 ∷ []) end))) [] (col 1 2 ∷ col 2 0 ∷ col 3 2 ∷ [])
+pub set_systems : IsQuery schema text.set_systems
+    (inner 4 (left 0 (equals 2 0 1 2 ∷ []) (left 13 (equals 3 1 1 1 ∷ []) end))) [] (col 1 2 ∷ col 2 0 ∷ col 3 2 ∷ [])
     ((col 1 1, ascending Binary) ∷ []) (codes "srs_id" ∷ codes "srs_id" ∷ codes "kind" ∷ [])
 unfolding understood everything
 set_systems = record { compiled = refl; plain = (refl, refl); unlisted = refl }
@@ -30,7 +32,8 @@ pub quiet_set_systems : IsQuiet text.set_systems
 unfolding everything
 quiet_set_systems = λ schema base. refl
 
-pub distinct_identifiers : IsQuery schema text.distinct_identifiers (inner 1 (inner 1 end)) (equals 2 3 1 3 ∷ []) (col 1 1 ∷ col 2 1 ∷ [])
+pub distinct_identifiers : IsQuery schema text.distinct_identifiers (inner 1 (inner 1 end)) (equals 2 3 1 3 ∷ [])
+    (col 1 1 ∷ col 2 1 ∷ [])
     ((col 1 1, ascending Binary) ∷ []) (codes "table_name" ∷ codes "table_name" ∷ [])
 unfolding understood everything
 distinct_identifiers = record { compiled = refl; plain = (refl, refl); unlisted = refl }
@@ -62,7 +65,8 @@ pub quiet_registered : IsQuiet text.registered
 unfolding everything
 quiet_registered = λ schema base. refl
 
-pub kinds_have_contents : IsQuery schema text.kinds_have_contents (inner 13 (left 1 (equals 2 1 1 1 ∷ []) end)) [] (col 2 1 ∷ [])
+pub kinds_have_contents : IsQuery schema text.kinds_have_contents (inner 13 (left 1 (equals 2 1 1 1 ∷ []) end)) []
+    (col 2 1 ∷ [])
     ((col 1 1, ascending Binary) ∷ []) (codes "table_name" ∷ [])
 unfolding understood everything
 kinds_have_contents = record { compiled = refl; plain = (refl, refl); unlisted = refl }
@@ -71,7 +75,8 @@ pub quiet_kinds_have_contents : IsQuiet text.kinds_have_contents
 unfolding everything
 quiet_kinds_have_contents = λ schema base. refl
 
-pub sets_have_contents : IsQuery schema text.sets_have_contents (inner 4 (left 1 (equals 2 1 1 1 ∷ []) end)) [] (col 2 1 ∷ [])
+pub sets_have_contents : IsQuery schema text.sets_have_contents (inner 4 (left 1 (equals 2 1 1 1 ∷ []) end)) []
+    (col 2 1 ∷ [])
     ((col 1 1, ascending Binary) ∷ []) (codes "table_name" ∷ [])
 unfolding understood everything
 sets_have_contents = record { compiled = refl; plain = (refl, refl); unlisted = refl }
@@ -89,7 +94,8 @@ pub quiet_set_extents : IsQuiet text.set_extents
 unfolding everything
 quiet_set_extents = λ schema base. refl
 
-pub contents_extents : IsQuery schema text.contents_extents (inner 1 end) [] (col 1 6 ∷ col 1 7 ∷ col 1 8 ∷ col 1 9 ∷ [])
+pub contents_extents : IsQuery schema text.contents_extents (inner 1 end) []
+    (col 1 6 ∷ col 1 7 ∷ col 1 8 ∷ col 1 9 ∷ [])
     ((col 1 1, ascending Binary) ∷ []) (codes "min_x" ∷ codes "min_y" ∷ codes "max_x" ∷ codes "max_y" ∷ [])
 unfolding understood everything
 contents_extents = record { compiled = refl; plain = (refl, refl); unlisted = refl }

@@ -1,5 +1,6 @@
 -- What the queries of contents, kinds and matrix sets show, and rules 2 to 6.
-use Rattle.std.proofs.Common.{◌≡◌, ◌↔◌, ◌⊎◌, inl, inr, true, false, ◌&&◌, ℤ, [], ◌∷◌, Option, Some, None, is_some, IsTrue, codes, filter, refl, sym, ap, ◌∙◌}
+use Rattle.std.proofs.Common.{◌≡◌, ◌↔◌, ◌⊎◌, inl, inr, true, false, ◌&&◌, ℤ, [], ◌∷◌, Option, Some, None, is_some}
+use Rattle.std.proofs.Common.{IsTrue, codes, filter, refl, sym, ap, ◌∙◌}
 use Rattle.std.specs.Prelude.{⊤, IfSome}
 use Rattle.std.specs.FinMap.{get}
 use Rattle.sqlite.specs.Order.{Row, column}
@@ -20,8 +21,10 @@ use Rattle.mm_definitions.proofs.Parts.{same_some}
 use Rattle.mm_store.specs.Rows.{maybe, system_row, contents_row, kind_row, set_row, relation_row}
 use Rattle.mm_store.specs.Stands.{StandsFor}
 use Rattle.mm_walk.specs.Columns.{number_of, text_bytes, is_there}
-use Rattle.mm_rules.specs.ContentsRows.{MayNameRow, IsSameRow, IsThereRow, IsAbsentRow, IsOrderedRow, IsPlacedRow, IsUnplacedRow, IsRegisteredRow}
-use Rattle.mm_rules.specs.Parts.{ContentsSystems, SetSystems, MappingNames, Registered, KindsHaveContents, SetsHaveContents, SetExtents, ContentsExtents}
+use Rattle.mm_rules.specs.ContentsRows.{MayNameRow, IsSameRow, IsThereRow, IsAbsentRow, IsOrderedRow, IsPlacedRow}
+use Rattle.mm_rules.specs.ContentsRows.{IsUnplacedRow, IsRegisteredRow}
+use Rattle.mm_rules.specs.Parts.{ContentsSystems, SetSystems, MappingNames, Registered, KindsHaveContents}
+use Rattle.mm_rules.specs.Parts.{SetsHaveContents, SetExtents, ContentsExtents}
 use Rattle.mm_walk.proofs.Joined.{as_whole, after_rowid, after_id, covered, covered_whole, covered_id, each_row, joined}
 use Rattle.mm_walk.proofs.Keys.{name_is, number_is, on_true, same}
 use Rattle.mm_walk.proofs.Terms.{equals}
@@ -35,9 +38,11 @@ module _ (version : ℤ) (db : Trees) (p : Package) (stands : StandsFor version 
       → MayNameRow (system ∷ column r 0 ∷ column q 2 ∷ [])
 
   with_kind : (z : ℤ) (v : Value)
-      → ((q : Row) → lists.Has (or_nulls (filter (λ q. equal Binary (column q 1) (Words table) && true) (db 13))) q → MayNameRow (Int z ∷ v ∷ column q 2 ∷ []))
+      → ((q : Row) → lists.Has (or_nulls (filter (λ q. equal Binary (column q 1) (Words table) && true) (db 13))) q
+      → MayNameRow (Int z ∷ v ∷ column q 2 ∷ []))
       ↔ (IsTrue (is_there v) × (IsPyramid p.kinds table → IsPlane z))
-  with_kind z v = joined after_rowid kind_row (db 13) p.kinds (covered (λ m w. (_, _, refl)) stands.holds.kinds) _ table (λ m w y. name_is m table) _
+  with_kind z v = joined after_rowid kind_row (db 13) p.kinds (covered (λ m w. (_, _, refl)) stands.holds.kinds) _ table
+      (λ m w y. name_is m table) _
       (λ o. IsTrue (is_there v) × ((o ≡ Some (codes "two")) ⊎ (o ≡ Some (codes "other")) → IsPlane z)) same (λ w y. same)
 
   names : (z : ℤ) → Names (Int z) ↔ MayName p.systems p.kinds table z
@@ -49,23 +54,31 @@ module _ (version : ℤ) (db : Trees) (p : Package) (stands : StandsFor version 
   maybe_names None = (λ _. tt, λ _ r there q where_q. tt)
   maybe_names (Some z) = names z
 
-pub contents_systems : Says [] (inner 1 (left 0 (equals 2 0 1 10 ∷ []) (left 13 (equals 3 1 1 1 ∷ []) end))) [] (col 1 10 ∷ col 2 0 ∷ col 3 2 ∷ []) MayNameRow (λ _. ⊤) ContentsSystems
+pub contents_systems : Says [] (inner 1 (left 0 (equals 2 0 1 10 ∷ []) (left 13 (equals 3 1 1 1 ∷ []) end))) []
+    (col 1 10 ∷ col 2 0 ∷ col 3 2 ∷ []) MayNameRow (λ _. ⊤) ContentsSystems
 contents_systems version db p stands known =
-    each_row after_rowid contents_row (db 1) p.contents (covered (λ k c. (_, _, refl)) stands.holds.contents) _ _ (λ k c x. maybe_names version db p stands k c.system)
+    each_row after_rowid contents_row (db 1) p.contents (covered (λ k c. (_, _, refl)) stands.holds.contents) _ _
+    (λ k c x. maybe_names version db p stands k c.system)
 
-pub set_systems : Says [] (inner 4 (left 0 (equals 2 0 1 2 ∷ []) (left 13 (equals 3 1 1 1 ∷ []) end))) [] (col 1 2 ∷ col 2 0 ∷ col 3 2 ∷ []) MayNameRow (λ _. ⊤) SetSystems
+pub set_systems : Says [] (inner 4 (left 0 (equals 2 0 1 2 ∷ []) (left 13 (equals 3 1 1 1 ∷ []) end))) []
+    (col 1 2 ∷ col 2 0 ∷ col 3 2 ∷ []) MayNameRow (λ _. ⊤) SetSystems
 set_systems version db p stands known =
-    each_row after_rowid set_row (db 4) p.sets (covered (λ k s. (_, _, refl)) stands.holds.sets) _ _ (λ k s x. names version db p stands k s.system)
+    each_row after_rowid set_row (db 4) p.sets (covered (λ k s. (_, _, refl)) stands.holds.sets) _ _
+    (λ k s x. names version db p stands k s.system)
 
 -- ---- rule 3
-pub distinct_identifiers : Says [] (inner 1 (inner 1 end)) (equals 2 3 1 3 ∷ []) (col 1 1 ∷ col 2 1 ∷ []) IsSameRow (λ _. ⊤) (λ p. DistinctIdentifiers p.contents)
+pub distinct_identifiers : Says [] (inner 1 (inner 1 end)) (equals 2 3 1 3 ∷ []) (col 1 1 ∷ col 2 1 ∷ []) IsSameRow
+    (λ _. ⊤) (λ p. DistinctIdentifiers p.contents)
 distinct_identifiers version db p stands known =
     let here = covered (λ k c. (_, _, refl)) stands.holds.contents in
-    each_row after_rowid contents_row (db 1) p.contents here _ _ (λ k c x. each_row after_rowid contents_row (db 1) p.contents here _ _
-    (λ l d y. let n = name_is d.identifier c.identifier in on_true _ (c.identifier ≡ d.identifier) (k ≡ l) (λ e. sym (n.0 e), λ e. n.1 (sym e))))
+    each_row after_rowid contents_row (db 1) p.contents here _ _
+    (λ k c x. each_row after_rowid contents_row (db 1) p.contents here _ _
+    (λ l d y. let n = name_is d.identifier c.identifier in on_true _ (c.identifier ≡ d.identifier) (k ≡ l)
+    (λ e. sym (n.0 e), λ e. n.1 (sym e))))
 
 -- ---- rule 4
-pub mapping_names : Says [] (inner 10 (left 1 (equals 2 1 1 7 ∷ []) end)) [] (col 2 1 ∷ []) IsAbsentRow (λ _. ⊤) MappingNames
+pub mapping_names : Says [] (inner 10 (left 1 (equals 2 1 1 7 ∷ []) end)) [] (col 2 1 ∷ []) IsAbsentRow (λ _. ⊤)
+    MappingNames
 mapping_names version db p stands known =
     each_row after_id relation_row (db 10) p.relations (covered_id (λ m r. (_, _, refl)) stands.holds.relations) _ _
     (λ m r x. joined after_rowid contents_row (db 1) p.contents
@@ -76,15 +89,19 @@ mapping_names version db p stands known =
     true_not_false e = cc
 
 -- ---- rule 5
-pub kinds_have_contents : Says [] (inner 13 (left 1 (equals 2 1 1 1 ∷ []) end)) [] (col 2 1 ∷ []) IsThereRow (λ _. ⊤) KindsHaveContents
+pub kinds_have_contents : Says [] (inner 13 (left 1 (equals 2 1 1 1 ∷ []) end)) [] (col 2 1 ∷ []) IsThereRow (λ _. ⊤)
+    KindsHaveContents
 kinds_have_contents version db p stands known =
     each_row after_rowid kind_row (db 13) p.kinds (covered (λ k v. (_, _, refl)) stands.holds.kinds) _ _
-    (λ k v x. joined after_rowid contents_row (db 1) p.contents (covered (λ k c. (_, _, refl)) stands.holds.contents) _ k (λ l c y. name_is l k) _ (λ o. IsTrue (is_some o)) same (λ c y. same))
+    (λ k v x. joined after_rowid contents_row (db 1) p.contents (covered (λ k c. (_, _, refl)) stands.holds.contents) _
+    k (λ l c y. name_is l k) _ (λ o. IsTrue (is_some o)) same (λ c y. same))
 
-pub sets_have_contents : Says [] (inner 4 (left 1 (equals 2 1 1 1 ∷ []) end)) [] (col 2 1 ∷ []) IsThereRow (λ _. ⊤) SetsHaveContents
+pub sets_have_contents : Says [] (inner 4 (left 1 (equals 2 1 1 1 ∷ []) end)) [] (col 2 1 ∷ []) IsThereRow (λ _. ⊤)
+    SetsHaveContents
 sets_have_contents version db p stands known =
     each_row after_rowid set_row (db 4) p.sets (covered (λ k s. (_, _, refl)) stands.holds.sets) _ _
-    (λ k s x. joined after_rowid contents_row (db 1) p.contents (covered (λ k c. (_, _, refl)) stands.holds.contents) _ k (λ l c y. name_is l k) _ (λ o. IsTrue (is_some o)) same (λ c y. same))
+    (λ k s x. joined after_rowid contents_row (db 1) p.contents (covered (λ k c. (_, _, refl)) stands.holds.contents) _
+    k (λ l c y. name_is l k) _ (λ o. IsTrue (is_some o)) same (λ c y. same))
 
 number_maybe : (o : Option ℤ) → number_of (maybe o) ≡ o
 number_maybe None = refl
@@ -95,11 +112,13 @@ absent_maybe None = (λ _. refl, λ _. refl)
 absent_maybe (Some z) = (λ e. absurd (let f : true ≡ false = e in cc), λ e. absurd (let f = e in cc))
 
 abbrev row_of : Value → Contents → Value → Value → Value → Value → Value → Row
-row_of v c min_x min_y max_x max_y system = v ∷ Words c.data_type ∷ maybe c.min_x ∷ maybe c.min_y ∷ maybe c.max_x ∷ maybe c.max_y ∷ maybe c.system ∷ min_x ∷ min_y ∷ max_x ∷ max_y ∷ system ∷ []
+row_of v c min_x min_y max_x max_y system = v ∷ Words c.data_type ∷ maybe c.min_x ∷ maybe c.min_y ∷ maybe c.max_x
+    ∷ maybe c.max_y ∷ maybe c.system ∷ min_x ∷ min_y ∷ max_x ∷ max_y ∷ system ∷ []
 
 abbrev with_set : Value → Contents → Option MatrixSet → Row
 with_set v c None = row_of v c Null Null Null Null Null
-with_set v c (Some s) = row_of v c (Int s.box.min_x) (Int s.box.min_y) (Int s.box.max_x) (Int s.box.max_y) (Int s.system)
+with_set v c (Some s) = row_of v c (Int s.box.min_x) (Int s.box.min_y) (Int s.box.max_x) (Int s.box.max_y)
+    (Int s.system)
 
 placed_is : (v : Value) (c : Contents) (o : Option MatrixSet) → IsPlacedRow (with_set v c o) ↔ IsPlaced c o
 placed_is v c None = (λ h. absurd (let f : false ≡ true = h.there in cc), λ h. absurd h)
@@ -123,7 +142,8 @@ placed_is v c (Some s) = (
   },
 )
 
-no_set : (v : Value) (c : Contents) (o : Option MatrixSet) → (is_there (column (with_set v c o) 11) ≡ false) ↔ (o ≡ None)
+no_set : (v : Value) (c : Contents) (o : Option MatrixSet) → (is_there (column (with_set v c o) 11) ≡ false)
+    ↔ (o ≡ None)
 no_set v c None = (λ _. refl, λ _. refl)
 no_set v c (Some s) = (λ e. absurd (let f : true ≡ false = e in cc), λ e. absurd (let f = e in cc))
 
@@ -157,7 +177,8 @@ suits_is : (v : Value) (c : Contents) (o : Option MatrixSet)
     → IsRegisteredRow (with_set v c o) ↔ ((kind : Kind) × (text_bytes v ≡ Some (kind_text kind)) × Suits kind c o)
 suits_is v c o = (to o, from o)
   where
-    to : (o : Option MatrixSet) → IsRegisteredRow (with_set v c o) → (kind : Kind) × (text_bytes v ≡ Some (kind_text kind)) × Suits kind c o
+    to : (o : Option MatrixSet) → IsRegisteredRow (with_set v c o) → (kind : Kind)
+        × (text_bytes v ≡ Some (kind_text kind)) × Suits kind c o
     to None (inl (inl is, h)) = (Two, is, (placed_is v c None).0 h)
     to None (inl (inr is, h)) = (Other, is, (placed_is v c None).0 h)
     to None (inr (inl is, h)) = (Attributes, is, (unplaced_is v c None).0 h)
@@ -167,7 +188,8 @@ suits_is v c o = (to o, from o)
     to (Some s) (inr (inl is, h)) = (Attributes, is, (unplaced_is v c (Some s)).0 h)
     to (Some s) (inr (inr is, h)) = (Media, is, (unplaced_is v c (Some s)).0 h)
 
-    from : (o : Option MatrixSet) → (kind : Kind) × (text_bytes v ≡ Some (kind_text kind)) × Suits kind c o → IsRegisteredRow (with_set v c o)
+    from : (o : Option MatrixSet) → (kind : Kind) × (text_bytes v ≡ Some (kind_text kind)) × Suits kind c o
+        → IsRegisteredRow (with_set v c o)
     from None (Two, is, h) = inl (inl is, (placed_is v c None).1 h)
     from None (Other, is, h) = inl (inr is, (placed_is v c None).1 h)
     from None (Attributes, is, h) = inr (inl is, (unplaced_is v c None).1 h)
@@ -197,16 +219,19 @@ registered version db p stands known =
 
 -- ---- rule 6
 pub set_extents : Says [] (inner 4 end) [] (col 1 3 ∷ col 1 4 ∷ col 1 5 ∷ col 1 6 ∷ []) IsOrderedRow (λ _. ⊤) SetExtents
-set_extents version db p stands known = each_row after_rowid set_row (db 4) p.sets (covered (λ k s. (_, _, refl)) stands.holds.sets) _ _ (λ k s x. same)
+set_extents version db p stands known = each_row after_rowid set_row (db 4) p.sets
+    (covered (λ k s. (_, _, refl)) stands.holds.sets) _ _ (λ k s x. same)
 
 ordered_is : (low high : Option ℤ) → IsOrdered (number_of (maybe low)) (number_of (maybe high)) ↔ IsOrdered low high
 ordered_is None high = same
 ordered_is (Some a) None = same
 ordered_is (Some a) (Some b) = same
 
-pub contents_extents : Says [] (inner 1 end) [] (col 1 6 ∷ col 1 7 ∷ col 1 8 ∷ col 1 9 ∷ []) IsOrderedRow (λ _. ⊤) ContentsExtents
+pub contents_extents : Says [] (inner 1 end) [] (col 1 6 ∷ col 1 7 ∷ col 1 8 ∷ col 1 9 ∷ []) IsOrderedRow (λ _. ⊤)
+    ContentsExtents
 contents_extents version db p stands known =
-    each_row after_rowid contents_row (db 1) p.contents (covered (λ k c. (_, _, refl)) stands.holds.contents) _ _ (λ k c x.
+    each_row after_rowid contents_row (db 1) p.contents (covered (λ k c. (_, _, refl)) stands.holds.contents) _ _
+    (λ k c x.
     let a = ordered_is c.min_x c.max_x in
     let b = ordered_is c.min_y c.max_y in
     (λ h. (a.0 h.0, b.0 h.1), λ h. (a.1 h.0, b.1 h.1)))

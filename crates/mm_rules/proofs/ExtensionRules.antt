@@ -31,11 +31,13 @@ use Rattle.mm_definitions.specs.Package.{Package, general_extension as general, 
 use Rattle.mm_definitions.specs.Rules.{IsWanted, ExactExtensions}
 use Rattle.mm_definitions.proofs.Parts.{same_some, same_itself, some_of}
 use Rattle.mm_definitions.proofs.KeyLaws.{texts, extension_keys}
-use Rattle.mm_store.specs.Rows.{maybe_words, extension_row, extension_of, is_extension, relation_row, kind_row, as_count}
+use Rattle.mm_store.specs.Rows.{maybe_words, extension_row, extension_of, is_extension, relation_row, kind_row}
+use Rattle.mm_store.specs.Rows.{as_count}
 use Rattle.mm_store.specs.Stands.{StandsFor, profile_row}
 use Rattle.mm_walk.specs.Columns.{text_bytes, is_there}
 use Rattle.mm_rules.specs.ExtensionRows.{NoRow, IsWantedRow, IsStandingRow, IsMarkedRow, IsRelated, IsZoomOther}
-use Rattle.mm_rules.specs.Parts.{ExtensionsWanted, NamedOnce, UnnamedOnce, ExtensionsOnce, GeneralExtension, MappingExtensions, ZoomExtensions}
+use Rattle.mm_rules.specs.Parts.{ExtensionsWanted, NamedOnce, UnnamedOnce, ExtensionsOnce, GeneralExtension}
+use Rattle.mm_rules.specs.Parts.{MappingExtensions, ZoomExtensions}
 use Rattle.mm_walk.proofs.Counted.{counts_cover, counted_in, is_that}
 use Rattle.mm_walk.proofs.Joined.{after_rowid, after_id, covered, covered_id, each_row, joined, some_joined}
 use Rattle.mm_walk.proofs.Named.{equals_null, null_equals}
@@ -61,13 +63,24 @@ maybe_are (Some a) (Some b) = let t = tie texts a b in (
 )
 
 -- `=`, of texts or NULL
-maybe_equal : (a b : Option Text) → (equal Binary (maybe_words a) (maybe_words b) ≡ true) ↔ ((t : Text) × (b ≡ Some t) × (a ≡ b))
-maybe_equal a None = (λ e. absurd (let f : false ≡ true = sym (equals_null (maybe_words a)) ∙ e in cc), λ h. absurd (let f = h.1 in cc))
-maybe_equal None (Some b) = (λ e. absurd (let f : false ≡ true = sym (null_equals (Words b)) ∙ e in cc), λ h. absurd (let f = h.2 in cc))
+maybe_equal : (a b : Option Text) → (equal Binary (maybe_words a) (maybe_words b) ≡ true)
+    ↔ ((t : Text) × (b ≡ Some t) × (a ≡ b))
+maybe_equal a None = (
+  λ e. absurd (let f : false ≡ true = sym (equals_null (maybe_words a)) ∙ e in cc),
+  λ h. absurd
+      (let f = h.1 in cc),
+)
+maybe_equal None (Some b) = (
+  λ e. absurd (let f : false ≡ true = sym (null_equals (Words b)) ∙ e in cc),
+  λ h. absurd
+      (let f = h.2 in cc),
+)
 maybe_equal (Some a) (Some b) = let t = texts_are a b in (λ e. (b, refl, ap Some (t.0 e)), λ h. t.1 (same_some h.2))
 
 abbrev same_columns : Bool → Extension → Value → Value → Value → Value → Bool
-same_columns table l b c d e = table && (is (maybe_words l.column) b && (is (Words l.name) c && (is (Words l.definition) d && (is (Words l.scope) e && true))))
+same_columns table l b c d e = table
+    && (is (maybe_words l.column) b
+    && (is (Words l.name) c && (is (Words l.definition) d && (is (Words l.scope) e && true))))
 
 -- whatever it is by which the tables are compared
 extension_by : (l k : Extension) (table : Bool) → (table ≡ true) ↔ (l.table ≡ k.table)
@@ -84,15 +97,20 @@ extension_by l k table t =
           let v = and_parts (is (Words l.definition) (Words k.definition)) _ u.1 in
           let w = and_parts (is (Words l.scope) (Words k.scope)) true v.1 in
           together l k (t.0 p.0) (c.0 q.0) (same_some (n.0 u.0)) (same_some (d.0 v.0)) (same_some (s.0 w.0)),
-      λ e. and_from _ _ (t.1 (ap (λ (x : Extension). x.table) e)) (and_from _ _ (c.1 (ap (λ (x : Extension). x.column) e)) (and_from _ _ (n.1 (ap (λ (x : Extension). Some x.name) e))
-          (and_from _ _ (d.1 (ap (λ (x : Extension). Some x.definition) e)) (and_from _ _ (s.1 (ap (λ (x : Extension). Some x.scope) e)) refl)))),
+      λ e. and_from _ _ (t.1 (ap (λ (x : Extension). x.table) e))
+          (and_from _ _ (c.1 (ap (λ (x : Extension). x.column) e))
+          (and_from _ _ (n.1 (ap (λ (x : Extension). Some x.name) e))
+          (and_from _ _ (d.1 (ap (λ (x : Extension). Some x.definition) e))
+          (and_from _ _ (s.1 (ap (λ (x : Extension). Some x.scope) e)) refl)))),
     )
   where
-    together : (l k : Extension) → l.table ≡ k.table → l.column ≡ k.column → l.name ≡ k.name → l.definition ≡ k.definition → l.scope ≡ k.scope → l ≡ k
+    together : (l k : Extension) → l.table ≡ k.table → l.column ≡ k.column → l.name ≡ k.name
+        → l.definition ≡ k.definition → l.scope ≡ k.scope → l ≡ k
     together l k a b c d e = λ i. record { table = a i; column = b i; name = c i; definition = d i; scope = e i }
 
 extension_is : (l k : Extension)
-    → (same_columns (is (maybe_words l.table) (maybe_words k.table)) l (maybe_words k.column) (Words k.name) (Words k.definition) (Words k.scope) ≡ true) ↔ (l ≡ k)
+    → (same_columns (is (maybe_words l.table) (maybe_words k.table)) l (maybe_words k.column) (Words k.name)
+    (Words k.definition) (Words k.scope) ≡ true) ↔ (l ≡ k)
 extension_is l k = extension_by l k (is (maybe_words l.table) (maybe_words k.table)) (maybe_are l.table k.table)
 
 abbrev IsNamed : Extension → Type 0
@@ -103,13 +121,18 @@ equal_columns l table = same_columns (equal Binary (maybe_words l.table) table) 
 
 -- an extension row of a table, which `=` finds
 named_is : (l k : Extension) → IsNamed k
-    → (equal_columns l (maybe_words k.table) (maybe_words k.column) (Words k.name) (Words k.definition) (Words k.scope) ≡ true) ↔ (l ≡ k)
-named_is l k n = let t = maybe_equal l.table k.table in extension_by l k (equal Binary (maybe_words l.table) (maybe_words k.table)) (λ e. (t.0 e).2, λ same. t.1 (n.0, n.1, same))
+    → (equal_columns l (maybe_words k.table) (maybe_words k.column) (Words k.name) (Words k.definition) (Words k.scope)
+    ≡ true) ↔ (l ≡ k)
+named_is l k n = let t = maybe_equal l.table k.table in extension_by l k
+    (equal Binary (maybe_words l.table) (maybe_words k.table)) (λ e. (t.0 e).2, λ same. t.1 (n.0, n.1, same))
 
 both_named : (l k : Extension)
-    → (equal_columns l (maybe_words k.table) (maybe_words k.column) (Words k.name) (Words k.definition) (Words k.scope) ≡ true) ↔ (IsNamed k × (l ≡ k))
+    → (equal_columns l (maybe_words k.table) (maybe_words k.column) (Words k.name) (Words k.definition) (Words k.scope)
+    ≡ true) ↔ (IsNamed k × (l ≡ k))
 both_named l k = (
-  λ e. let t = (maybe_equal l.table k.table).0 (and_parts (equal Binary (maybe_words l.table) (maybe_words k.table)) _ e).0 in let n : IsNamed k = (t.0, t.1) in (n, (named_is l k n).0 e),
+  λ e. let t = (maybe_equal l.table k.table).0
+      (and_parts (equal Binary (maybe_words l.table) (maybe_words k.table)) _ e).0 in let n : IsNamed k =
+      (t.0, t.1) in (n, (named_is l k n).0 e),
   λ h. (named_is l k h.0).1 h.1,
 )
 
@@ -118,8 +141,11 @@ both_unnamed : (l k : Extension)
     (Words k.name) (Words k.definition) (Words k.scope)) ≡ true) ↔ ((k.table ≡ None) × (l ≡ k))
 both_unnamed l k =
     let t = maybe_are k.table None in
-    let by : k.table ≡ None → (same_columns (is (maybe_words l.table) Null) l (maybe_words k.column) (Words k.name) (Words k.definition) (Words k.scope) ≡ true) ↔ (l ≡ k) =
-    λ at. extension_by l k (is (maybe_words l.table) Null) (subst (λ (o : Option Text). (is (maybe_words l.table) Null ≡ true) ↔ (l.table ≡ o)) (sym at) (maybe_are l.table None)) in (
+    let by : k.table ≡ None → (same_columns (is (maybe_words l.table) Null) l (maybe_words k.column) (Words k.name)
+    (Words k.definition) (Words k.scope) ≡ true) ↔ (l ≡ k) =
+    λ at. extension_by l k (is (maybe_words l.table) Null)
+    (subst (λ (o : Option Text). (is (maybe_words l.table) Null ≡ true) ↔ (l.table ≡ o)) (sym at)
+    (maybe_are l.table None)) in (
       λ e. let p = and_parts (is (maybe_words k.table) Null) _ e in let at = t.0 p.0 in (at, (by at).0 p.1),
       λ h. and_from _ _ (t.1 h.0) ((by h.0).1 h.1),
     )
@@ -172,7 +198,8 @@ record IsZoomOne (e : Extension) : Type 0 where
   pub scope_is : e.scope ≡ codes "read-write"
 
 abbrev row_of : Extension → Value → Value → Row
-row_of e v w = maybe_words e.table ∷ maybe_words e.column ∷ Words e.name ∷ Words e.definition ∷ Words e.scope ∷ v ∷ w ∷ []
+row_of e v w = maybe_words e.table ∷ maybe_words e.column ∷ Words e.name ∷ Words e.definition ∷ Words e.scope ∷ v ∷ w
+    ∷ []
 
 absent_words : (o : Option Text) → (is_there (maybe_words o) ≡ false) ↔ (o ≡ None)
 absent_words None = (λ _. refl, λ _. refl)
@@ -184,13 +211,24 @@ words_maybe (Some t) = refl
 
 related_is : (e : Extension) (v w : Value) → IsRelated (row_of e v w) ↔ IsRelatedOne e
 related_is e v w = (
-  λ (a, b, c, d). record { column_is = (absent_words e.column).0 a; name_is = same_some b; definition_is = same_some c; scope_is = same_some d },
+  λ (a, b, c, d). record {
+    column_is = (absent_words e.column).0 a;
+    name_is = same_some b;
+    definition_is = same_some c;
+    scope_is = same_some d;
+  },
   λ h. ((absent_words e.column).1 h.column_is, ap Some h.name_is, ap Some h.definition_is, ap Some h.scope_is),
 )
 
 zoom_is : (e : Extension) (v w : Value) → IsZoomOther (row_of e v w) ↔ IsZoomOne e
 zoom_is e v w = (
-  λ (a, b, c, d). record { column_is = sym (words_maybe e.column) ∙ a; name_is = same_some b; definition_is = same_some c; scope_is = same_some d },
+  λ (a, b, c, d). record {
+    column_is = sym (words_maybe e.column) ∙ a;
+    name_is = same_some b;
+    definition_is = same_some
+        c;
+    scope_is = same_some d;
+  },
   λ h. (words_maybe e.column ∙ h.column_is, ap Some h.name_is, ap Some h.definition_is, ap Some h.scope_is),
 )
 
@@ -198,12 +236,14 @@ zoom_is e v w = (
 abbrev Wants : Extension → Text → Type 0 → Option Text → Type 0
 Wants e t Mapping kind = ((t ≡ codes "gpkgext_relations") × IsRelatedOne e) ⊎ ((Mapping × IsRelatedOne e) ⊎ ((kind ≡ Some (codes "other")) × IsZoomOne e))
 
-wants_is : (e : Extension) (t : Text) (v w : Value) → e.table ≡ Some t → IsWantedRow (row_of e v w) ↔ Wants e t (IsTrue (is_there v)) (text_bytes w)
+wants_is : (e : Extension) (t : Text) (v w : Value) → e.table ≡ Some t
+    → IsWantedRow (row_of e v w) ↔ Wants e t (IsTrue (is_there v)) (text_bytes w)
 wants_is e t v w at =
     let r = related_is e v w in
     let z = zoom_is e v w in
     let first : text_bytes (maybe_words e.table) ≡ Some t = words_maybe e.table ∙ at in
-    let there : IsTrue (is_there (maybe_words e.table)) = subst (λ o. IsTrue (is_there (maybe_words o))) (sym at) refl in (
+    let there : IsTrue (is_there (maybe_words e.table)) = subst (λ o. IsTrue (is_there (maybe_words o))) (sym at)
+    refl in (
       λ h. elim h [
         | inl a ↦ inl (same_some (sym first ∙ a.0), r.0 a.1)
         | inr b ↦ elim b [ inl c ↦ inr (inl (c.0.1, r.0 c.1)) | inr d ↦ inr (inr (d.0.1, z.0 d.1)) ]
@@ -215,30 +255,48 @@ wants_is e t v w at =
     )
 
 related_one : (e : Extension) (t : Text) → e.table ≡ Some t → IsRelatedOne e → e ≡ mapping_extension t
-related_one e t at h = λ i. record { table = at i; column = h.column_is i; name = h.name_is i; definition = h.definition_is i; scope = h.scope_is i }
+related_one e t at h = λ i. record
+    { table = at i; column = h.column_is i; name = h.name_is i; definition = h.definition_is i; scope = h.scope_is i }
 
 zoom_one : (e : Extension) (t : Text) → e.table ≡ Some t → IsZoomOne e → e ≡ zoom_extension t
-zoom_one e t at h = λ i. record { table = at i; column = h.column_is i; name = h.name_is i; definition = h.definition_is i; scope = h.scope_is i }
+zoom_one e t at h = λ i. record {
+  table = at i;
+  column = h.column_is i;
+  name = h.name_is i;
+  definition = h.definition_is
+      i;
+  scope = h.scope_is i;
+}
 
 is_related_one : (t : Text) (e : Extension) → e ≡ mapping_extension t → IsRelatedOne e
-is_related_one t e is = subst IsRelatedOne (sym is) (record { column_is = refl; name_is = refl; definition_is = refl; scope_is = refl })
+is_related_one t e is = subst IsRelatedOne (sym is)
+    (record { column_is = refl; name_is = refl; definition_is = refl; scope_is = refl })
 
 is_zoom_one : (t : Text) (e : Extension) → e ≡ zoom_extension t → IsZoomOne e
-is_zoom_one t e is = subst IsZoomOne (sym is) (record { column_is = refl; name_is = refl; definition_is = refl; scope_is = refl })
+is_zoom_one t e is = subst IsZoomOne (sym is)
+    (record { column_is = refl; name_is = refl; definition_is = refl; scope_is = refl })
 
 table_is : (e k : Extension) (t u : Text) → e.table ≡ Some t → k.table ≡ Some u → e ≡ k → u ≡ t
 table_is e k t u at to is = same_some (sym to ∙ sym (ap (λ (x : Extension). x.table) is) ∙ at)
 
-wanted_is : (p : Package) (e : Extension) (t : Text) → e.table ≡ Some t → Wants e t (Stands p.relations t) (get p.kinds t) ↔ IsWanted p.kinds p.relations e
+wanted_is : (p : Package) (e : Extension) (t : Text) → e.table ≡ Some t
+    → Wants e t (Stands p.relations t) (get p.kinds t) ↔ IsWanted p.kinds p.relations e
 wanted_is p e t at = (
   λ h. elim h [
     | inl a ↦ inl (related_one e t at a.1 ∙ ap mapping_extension a.0)
-    | inr b ↦ elim b [ inl c ↦ inr (inl (t, c.0, related_one e t at c.1)) | inr d ↦ inr (inr (t, d.0, zoom_one e t at d.1)) ]
+    | inr b ↦ elim b [
+      | inl c ↦ inr (inl (t, c.0, related_one e t at c.1))
+      | inr d ↦ inr
+          (inr (t, d.0, zoom_one e t at d.1))
+    ]
   ],
   λ h. elim h [
     | inl g ↦ inl (sym (table_is e general t (codes "gpkgext_relations") at refl g), is_related_one (codes "gpkgext_relations") e g)
     | inr b ↦ elim b [
-      | inl m ↦ inr (inl (subst (Stands p.relations) (table_is e (mapping_extension m.0) t m.0 at refl m.2) m.1, is_related_one m.0 e m.2))
+      | inl m ↦ inr (inl (
+        subst (Stands p.relations) (table_is e (mapping_extension m.0) t m.0 at refl m.2) m.1,
+        is_related_one m.0 e m.2,
+      ))
       | inr z ↦ inr (inr (subst (λ x. get p.kinds x ≡ Some (codes "other")) (table_is e (zoom_extension z.0) t z.0 at refl z.2) z.1, is_zoom_one z.0 e z.2))
     ]
   ],
@@ -252,7 +310,8 @@ never_none p e at (inr (inr z)) = let f = sym at ∙ ap (λ (x : Extension). x.t
 never_shown : (e : Extension) (v w : Value) → e.table ≡ None → IsWantedRow (row_of e v w) → ⊥
 never_shown e v w at h =
     let none : text_bytes (maybe_words e.table) ≡ None = words_maybe e.table ∙ at in
-    let gone : IsTrue (is_there (maybe_words e.table)) → ⊥ = λ there. let f : false ≡ true = subst (λ o. IsTrue (is_there (maybe_words o))) at there in cc in
+    let gone : IsTrue (is_there (maybe_words e.table))
+    → ⊥ = λ there. let f : false ≡ true = subst (λ o. IsTrue (is_there (maybe_words o))) at there in cc in
     elim h [
       | inl a ↦ let f = sym none ∙ a.0 in cc
       | inr b ↦ elim b [ inl c ↦ gone c.0.0 | inr d ↦ gone d.0.0 ]
@@ -265,9 +324,11 @@ abbrev kinds : Trees → Value → List Row
 kinds db v = or_nulls (filter (λ q. equal Binary (column q 1) v && true) (db 13))
 
 abbrev Shown : Trees → Extension → Value → Type 0
-Shown db e v = (r : Row) → lists.Has (mappings db v) r → (q : Row) → lists.Has (kinds db v) q → IsWantedRow (row_of e (column r 7) (column q 2))
+Shown db e v = (r : Row) → lists.Has (mappings db v) r → (q : Row) → lists.Has (kinds db v) q
+    → IsWantedRow (row_of e (column r 7) (column q 2))
 
-with_table : (version : ℤ) (db : Trees) (p : Package) → StandsFor version db p → (e : Extension) (t : Text) → e.table ≡ Some t
+with_table : (version : ℤ) (db : Trees) (p : Package) → StandsFor version db p → (e : Extension) (t : Text)
+    → e.table ≡ Some t
     → Shown db e (Words t) ↔ Wants e t (Stands p.relations t) (get p.kinds t)
 with_table version db p stands e t at =
     joined after_id relation_row (db 10) p.relations (covered_id (λ m r. (_, _, refl)) stands.holds.relations) _ t
@@ -275,7 +336,8 @@ with_table version db p stands e t at =
     (λ r y. with_kind (Words t))
   where
     with_kind : (v : Value)
-        → ((q : Row) → lists.Has (kinds db (Words t)) q → IsWantedRow (row_of e v (column q 2))) ↔ Wants e t (IsTrue (is_there v)) (get p.kinds t)
+        → ((q : Row) → lists.Has (kinds db (Words t)) q → IsWantedRow (row_of e v (column q 2)))
+        ↔ Wants e t (IsTrue (is_there v)) (get p.kinds t)
     with_kind v = joined after_rowid kind_row (db 13) p.kinds (covered (λ m w. (_, _, refl)) stands.holds.kinds) _ t
         (λ m w y. name_is m t) _ (λ o. Wants e t (IsTrue (is_there v)) o) (wants_is e t v Null at)
         (λ w y. wants_is e t v (Words w) at)
@@ -283,9 +345,11 @@ with_table version db p stands e t at =
 pub extensions_wanted : Says [] (inner 8 (left 10 (equals 2 7 1 1 ∷ []) (left 13 (equals 3 1 1 1 ∷ []) end))) []
     (col 1 1 ∷ col 1 2 ∷ col 1 3 ∷ col 1 4 ∷ col 1 5 ∷ col 2 7 ∷ col 3 2 ∷ []) IsWantedRow (λ _. ⊤) ExtensionsWanted
 extensions_wanted version db p stands known =
-    each_row after_rowid (λ k (n : ℕ). extension_row k) (db 8) p.extensions (counts_cover (db 8) p.extensions stands.holds.extensions) _ _ (λ e n x. by_table e e.table refl)
+    each_row after_rowid (λ k (n : ℕ). extension_row k) (db 8) p.extensions
+    (counts_cover (db 8) p.extensions stands.holds.extensions) _ _ (λ e n x. by_table e e.table refl)
   where
-    by_table : (e : Extension) (o : Option Text) → e.table ≡ o → Shown db e (maybe_words e.table) ↔ IsWanted p.kinds p.relations e
+    by_table : (e : Extension) (o : Option Text) → e.table ≡ o
+        → Shown db e (maybe_words e.table) ↔ IsWanted p.kinds p.relations e
     by_table e None at = (
       λ shown.
           let r = some_joined (filter (λ r. equal Binary (column r 7) (maybe_words e.table) && true) (db 10)) in
@@ -296,13 +360,15 @@ extensions_wanted version db p stands known =
     by_table e (Some t) at =
         let a = with_table version db p stands e t at in
         let b = wanted_is p e t at in
-        subst (λ o. Shown db e (maybe_words o) ↔ IsWanted p.kinds p.relations e) (sym at) (λ h. b.0 (a.0 h), λ h. a.1 (b.1 h))
+        subst (λ o. Shown db e (maybe_words o) ↔ IsWanted p.kinds p.relations e) (sym at)
+        (λ h. b.0 (a.0 h), λ h. a.1 (b.1 h))
 
 -- ---- each row once
 never_less : (v : Value) → value_cmp v v ≡ Less → ⊥
 never_less v h = let e = value_cmp_total.antisymm v v ∙ ap ordering_reverse h in cc
 
-lower_is : (x y : Value) → IsTrue (is_int x) → IsTrue (is_int y) → (is_true (binary (Compare Lt Binary) x y) ≡ true) ↔ (value_cmp x y ≡ Less)
+lower_is : (x y : Value) → IsTrue (is_int x) → IsTrue (is_int y) → (is_true (binary (Compare Lt Binary) x y) ≡ true)
+    ↔ (value_cmp x y ≡ Less)
 unfolding binary
 lower_is (Int a) (Int b) h k = (λ e. less _ (sym (as_truth _) ∙ e), λ e. as_truth _ ∙ ap is_lt e)
   where
@@ -320,29 +386,36 @@ lower_is (Int a) (Words b) h k = absurd cc
 lower_is (Int a) (Blob b) h k = absurd cc
 
 module _ (test : Row → Bool) where
-  one_kept : (rows : List Row) (r : Row) → lists.Has rows r → test r ≡ true → (n : ℕ) × (length (filter test rows) ≡ suc n)
+  one_kept : (rows : List Row) (r : Row) → lists.Has rows r → test r ≡ true → (n : ℕ)
+      × (length (filter test rows) ≡ suc n)
   one_kept rows r there yes_r = some_in (filter test rows) r (has_kept test rows r there yes_r)
     where
       some_in : (xs : List Row) (x : Row) → lists.Has xs x → (n : ℕ) × (length xs ≡ suc n)
       some_in [] x h = absurd h
       some_in (y ∷ xs) x h = (length xs, refl)
 
-  kept_more : (x : Row) (rows : List Row) → test x ≡ true → (n : ℕ) × (length (filter test rows) ≡ suc n) → 2 ≤ length (filter test (x ∷ rows))
+  kept_more : (x : Row) (rows : List Row) → test x ≡ true → (n : ℕ) × (length (filter test rows) ≡ suc n)
+      → 2 ≤ length (filter test (x ∷ rows))
   kept_more x rows here n = rw here (let l = n.1 in omega (arith, l))
 
-  kept_still : (x : Row) (rows : List Row) (b : Bool) → test x ≡ b → 2 ≤ length (filter test rows) → 2 ≤ length (filter test (x ∷ rows))
+  kept_still : (x : Row) (rows : List Row) (b : Bool) → test x ≡ b → 2 ≤ length (filter test rows)
+      → 2 ≤ length (filter test (x ∷ rows))
   kept_still x rows true is two = rw is (omega (arith, two))
   kept_still x rows false is two = rw is two
 
-  two_kept : (rows : List Row) (a b : Row) → lists.Has rows a → lists.Has rows b → test a ≡ true → test b ≡ true → a ≢ b → 2 ≤ length (filter test rows)
+  two_kept : (rows : List Row) (a b : Row) → lists.Has rows a → lists.Has rows b → test a ≡ true → test b ≡ true → a ≢ b
+      → 2 ≤ length (filter test rows)
   two_kept [] a b h k p q apart = absurd h
   two_kept (x ∷ rows) a b (inl e) (inl f) p q apart = absurd (apart (e ∙ sym f))
-  two_kept (x ∷ rows) a b (inl e) (inr k) p q apart = kept_more x rows (subst (λ r. test r ≡ true) e p) (one_kept rows b k q)
-  two_kept (x ∷ rows) a b (inr h) (inl f) p q apart = kept_more x rows (subst (λ r. test r ≡ true) f q) (one_kept rows a h p)
+  two_kept (x ∷ rows) a b (inl e) (inr k) p q apart = kept_more x rows (subst (λ r. test r ≡ true) e p)
+      (one_kept rows b k q)
+  two_kept (x ∷ rows) a b (inr h) (inl f) p q apart = kept_more x rows (subst (λ r. test r ≡ true) f q)
+      (one_kept rows a h p)
   two_kept (x ∷ rows) a b (inr h) (inr k) p q apart = kept_still x rows (test x) refl (two_kept rows a b h k p q apart)
 
   only_once : (rows : List Row) → IsTable rows
-      → ((a b : Row) → lists.Has rows a → lists.Has rows b → test a ≡ true → test b ≡ true → value_cmp (rowid a) (rowid b) ≡ Less → ⊥)
+      → ((a b : Row) → lists.Has rows a → lists.Has rows b → test a ≡ true → test b ≡ true
+      → value_cmp (rowid a) (rowid b) ≡ Less → ⊥)
       → length (filter test rows) ≤ 1
   only_once [] rise none = omega arith
   only_once (x ∷ rows) rise none = by_test (test x) refl (only_once rows rise.1 (λ a b h k. none a b (inr h) (inr k)))
@@ -365,7 +438,8 @@ abbrev in_order : Row → Row → Bool → Bool
 in_order a b columns = is_true (binary (Compare Lt Binary) (rowid a) (rowid b)) && columns
 
 abbrev rest_same : Row → Row → Bool
-rest_same a b = is (column b 2) (column a 2) && (is (column b 3) (column a 3) && (is (column b 4) (column a 4) && (is (column b 5) (column a 5) && true)))
+rest_same a b = is (column b 2) (column a 2)
+    && (is (column b 3) (column a 3) && (is (column b 4) (column a 4) && (is (column b 5) (column a 5) && true)))
 
 abbrev named_pair : Row → Row → Bool
 named_pair a b = in_order a b (equal Binary (column b 1) (column a 1) && rest_same a b)
@@ -382,15 +456,19 @@ Finds pair Q = (a b : Row) (k l : Extension) → drop 1 a ≡ extension_row k �
 after_lower : (x y : Value) (columns : Bool) {C : Type 0} → IsTrue (is_int x) → IsTrue (is_int y) → (columns ≡ true) ↔ C
     → ((is_true (binary (Compare Lt Binary) x y) && columns) ≡ true) ↔ ((value_cmp x y ≡ Less) × C)
 after_lower x y columns m n same =
-    let w = lower_is x y m n in
-    (λ e. let parts = and_parts (is_true (binary (Compare Lt Binary) x y)) _ e in (w.0 parts.0, same.0 parts.1), λ both. and_from _ _ (w.1 both.0) (same.1 both.1))
+    let w = lower_is x y m n in (
+      λ e. let parts = and_parts (is_true (binary (Compare Lt Binary) x y)) _ e in (w.0 parts.0, same.0 parts.1),
+      λ both.
+          and_from _ _ (w.1 both.0) (same.1 both.1),
+    )
 
 finds_named : Finds named_pair IsNamed
 finds_named [] b k l p q m n = absurd cc
 finds_named (x ∷ a) [] k l p q m n = absurd cc
 finds_named (x ∷ a) (y ∷ b) k l p q m n =
     subst (λ u. (named_pair (x ∷ u) (y ∷ b) ≡ true) ↔ ((value_cmp x y ≡ Less) × (IsNamed k × (l ≡ k)))) (sym p)
-    (subst (λ v. (named_pair (x ∷ extension_row k) (y ∷ v) ≡ true) ↔ ((value_cmp x y ≡ Less) × (IsNamed k × (l ≡ k)))) (sym q)
+    (subst (λ v. (named_pair (x ∷ extension_row k) (y ∷ v) ≡ true) ↔ ((value_cmp x y ≡ Less) × (IsNamed k × (l ≡ k))))
+    (sym q)
     (after_lower x y _ m n (both_named l k)))
 
 finds_unnamed : Finds unnamed_pair (λ k. k.table ≡ None)
@@ -411,7 +489,8 @@ positive zero n is = absurd (let f = is in cc)
 positive (suc l) n is = let f = count_of (suc l) n is in omega (arith, f)
 
 -- no two rows are found exactly where each extension of these stands once
-module _ (version : ℤ) (db : Trees) (p : Package) (stands : StandsFor version db p) (pair : Row → Row → Bool) (Q : Extension → Type 0) (finds : Finds pair Q) where
+module _ (version : ℤ) (db : Trees) (p : Package) (stands : StandsFor version db p) (pair : Row → Row → Bool)
+    (Q : Extension → Type 0) (finds : Finds pair Q) where
   abbrev rows : List Row
   rows = db 8
 
@@ -424,7 +503,8 @@ module _ (version : ℤ) (db : Trees) (p : Package) (stands : StandsFor version 
   exactly : {l : ℕ} (n : ℕ) → l ≡ n → l ≤ 1 → 1 ≤ n → n ≡ 1
   exactly n is most low = omega (arith, is, most, low)
 
-  once_of : ((a : Row) → lists.Has rows a → (b : Row) → lists.Has rows b → OnTrue (pair a b) ⊥) ↔ Each p.extensions (λ e count. Q e → count ≡ 1)
+  once_of : ((a : Row) → lists.Has rows a → (b : Row) → lists.Has rows b → OnTrue (pair a b) ⊥) ↔ Each p.extensions
+      (λ e count. Q e → count ≡ 1)
   once_of =
       let h = stands.holds.extensions in (
         λ shown e n at of.
@@ -435,7 +515,8 @@ module _ (version : ℤ) (db : Trees) (p : Package) (stands : StandsFor version 
             (int a here) (int b there))).0 (shown a here b there) (less, (subst Q (sym k) of, l ∙ sym k))) in
             exactly n is_n most (at_least e n at),
         λ once a here b there.
-            (on_true _ _ _ (finds a b (extension_of a) (extension_of b) (h.sound a here) (h.sound b there) (int a here) (int b there))).1 (λ it.
+            (on_true _ _ _ (finds a b (extension_of a) (extension_of b) (h.sound a here) (h.sound b there) (int a here)
+            (int b there))).1 (λ it.
             let e = extension_of a in
             let n = counted_in rows p.extensions h a here in
             let one = once e (suc n.0) n.1 it.1.0 in
@@ -459,7 +540,8 @@ unnamed_once version db p stands known = once_of version db p stands unnamed_pai
 pub all_once : (p : Package) → (NamedOnce p × UnnamedOnce p) ↔ ExtensionsOnce p
 all_once p = (λ h e n is. go h e n is e.table refl, λ once. (λ e n is _. once e n is, λ e n is _. once e n is))
   where
-    go : NamedOnce p × UnnamedOnce p → (e : Extension) (n : ℕ) → get p.extensions e ≡ Some n → (o : Option Text) → e.table ≡ o → n ≡ 1
+    go : NamedOnce p × UnnamedOnce p → (e : Extension) (n : ℕ) → get p.extensions e ≡ Some n → (o : Option Text)
+        → e.table ≡ o → n ≡ 1
     go h e n is None at = h.1 e n is at
     go h e n is (Some t) at = h.0 e n is (t, at)
 
@@ -468,14 +550,17 @@ one_of : (p : Package) → ExtensionsOnce p → (e : Extension) → Stands p.ext
 one_of p once e there = let v = some_of (get p.extensions e) there in v.1 ∙ ap Some (once e v.0 v.1)
 
 pub all_extensions : (p : Package)
-    → (ExtensionsWanted p × (ExtensionsOnce p × (GeneralExtension p × (MappingExtensions p × ZoomExtensions p)))) ↔ ExactExtensions p.kinds p.relations p.extensions
+    → (ExtensionsWanted p × (ExtensionsOnce p × (GeneralExtension p × (MappingExtensions p × ZoomExtensions p))))
+    ↔ ExactExtensions p.kinds p.relations p.extensions
 all_extensions p = (
   λ h. record {
     only = λ e n is. (h.0 e n is, h.1.0 e n is);
     all = λ e wanted. elim wanted [
       | inl g ↦ subst (λ x. Has p.extensions x 1) (sym g) (one_of p h.1.0 general h.1.1.0)
       | inr b ↦ elim b [
-        | inl m ↦ subst (λ x. Has p.extensions x 1) (sym m.2) (one_of p h.1.0 (mapping_extension m.0) (let r = some_of (get p.relations m.0) m.1 in h.1.1.1.0 m.0 r.0 r.1))
+        | inl m ↦ subst (λ x. Has p.extensions x 1) (sym m.2)
+            (one_of p h.1.0 (mapping_extension m.0)
+            (let r = some_of (get p.relations m.0) m.1 in h.1.1.1.0 m.0 r.0 r.1))
         | inr z ↦ subst (λ x. Has p.extensions x 1) (sym z.2) (one_of p h.1.0 (zoom_extension z.0) (h.1.1.1.1 z.0 (codes "other") z.1 refl))
       ]
     ];

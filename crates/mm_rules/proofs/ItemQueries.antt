@@ -21,7 +21,8 @@ pub quiet_rows_in_tables : IsQuiet text.rows_in_tables
 unfolding everything
 quiet_rows_in_tables = λ schema base. refl
 
-pub media_in_tables : IsQuery schema text.media_in_tables (inner 19 (left 13 (equals 2 1 1 1 ∷ []) end)) [] (col 2 2 ∷ [])
+pub media_in_tables : IsQuery schema text.media_in_tables (inner 19 (left 13 (equals 2 1 1 1 ∷ []) end)) []
+    (col 2 2 ∷ [])
     ((col 1 1, ascending Binary) ∷ (col 1 2, ascending Binary) ∷ []) (codes "kind" ∷ [])
 unfolding understood everything
 media_in_tables = record { compiled = refl; plain = (refl, refl); unlisted = refl }
@@ -30,7 +31,9 @@ pub quiet_media_in_tables : IsQuiet text.media_in_tables
 unfolding everything
 quiet_media_in_tables = λ schema base. refl
 
-pub relations_suited : IsQuery schema text.relations_suited (inner 10 (left 13 (equals 2 1 1 2 ∷ []) (left 13 (equals 3 1 1 4 ∷ []) end))) [] (col 2 2 ∷ col 3 2 ∷ col 1 3 ∷ col 1 5 ∷ col 1 6 ∷ [])
+pub relations_suited : IsQuery schema text.relations_suited
+    (inner 10 (left 13 (equals 2 1 1 2 ∷ []) (left 13 (equals 3 1 1 4 ∷ []) end))) []
+    (col 2 2 ∷ col 3 2 ∷ col 1 3 ∷ col 1 5 ∷ col 1 6 ∷ [])
     ((col 1 7, ascending Binary) ∷ []) (codes "kind" ∷ codes "kind" ∷ codes "base_primary_column" ∷ codes "related_primary_column" ∷ codes "relation_name" ∷ [])
 unfolding understood everything
 relations_suited = record { compiled = refl; plain = (refl, refl); unlisted = refl }

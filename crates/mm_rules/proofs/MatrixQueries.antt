@@ -12,7 +12,8 @@ use Rattle.mm_rules.specs.Texts as text
 use Rattle.mm_walk.proofs.Quiet.{IsQuiet}
 use Rattle.mm_walk.proofs.Terms.{equals, below}
 
-pub tiles_inside : IsQuery schema text.tiles_inside (inner 15 (left 6 (equals 2 1 1 1 ∷ equals 2 2 1 2 ∷ []) end)) [] (col 1 3 ∷ col 1 4 ∷ col 2 3 ∷ col 2 4 ∷ [])
+pub tiles_inside : IsQuery schema text.tiles_inside (inner 15 (left 6 (equals 2 1 1 1 ∷ equals 2 2 1 2 ∷ []) end)) []
+    (col 1 3 ∷ col 1 4 ∷ col 2 3 ∷ col 2 4 ∷ [])
     ((col 1 1, ascending Binary) ∷ (col 1 2, ascending Binary) ∷ (col 1 3, ascending Binary)
     ∷ (col 1 4, ascending Binary) ∷ []) (codes "tile_column" ∷ codes "tile_row" ∷ codes "matrix_width" ∷ codes
     "matrix_height" ∷ [])
@@ -36,7 +37,8 @@ pub quiet_matrices_fit : IsQuiet text.matrices_fit
 unfolding everything
 quiet_matrices_fit = λ schema base. refl
 
-pub higher_is_finer : IsQuery schema text.higher_is_finer (inner 6 (inner 6 end)) (equals 2 1 1 1 ∷ below 1 2 2 2 ∷ []) (col 1 7 ∷ col 1 8 ∷ col 2 7 ∷ col 2 8 ∷ [])
+pub higher_is_finer : IsQuery schema text.higher_is_finer (inner 6 (inner 6 end)) (equals 2 1 1 1 ∷ below 1 2 2 2 ∷ [])
+    (col 1 7 ∷ col 1 8 ∷ col 2 7 ∷ col 2 8 ∷ [])
     ((col 1 1, ascending Binary) ∷ (col 1 2, ascending Binary) ∷ []) (codes "pixel_x_size" ∷ codes "pixel_y_size" ∷ codes "pixel_x_size" ∷ codes "pixel_y_size" ∷ [])
 unfolding understood everything
 higher_is_finer = record { compiled = refl; plain = (refl, refl); unlisted = refl }

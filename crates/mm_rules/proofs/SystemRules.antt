@@ -1,5 +1,6 @@
 -- What the query of the given systems shows, and rule 1.
-use Rattle.std.proofs.Common.{◌≡◌, ◌↔◌, inl, true, ◌&&◌, ℤ, pos, negsuc, [], ◌∷◌, List, Option, Some, None, filter, refl, sym, ap, subst}
+use Rattle.std.proofs.Common.{◌≡◌, ◌↔◌, inl, true, ◌&&◌, ℤ, pos, negsuc, [], ◌∷◌, List, Option, Some, None, filter}
+use Rattle.std.proofs.Common.{refl, sym, ap, subst}
 use Rattle.std.specs.Prelude.{⊤}
 use Rattle.std.specs.FinMap.{get}
 use Rattle.sqlite.specs.Order.{Row, column}
@@ -23,7 +24,8 @@ use Rattle.mm_walk.proofs.Checks.{Says}
 
 -- five columns show a system exactly where it is that one
 system_is : (wanted s : System)
-    → shows_by wanted (Words s.name) (Words s.organization) (Int s.organization_id) (Words s.definition) (Words s.description) ↔ (◌≡◌ {A = Option System} (Some s) (Some wanted))
+    → shows_by wanted (Words s.name) (Words s.organization) (Int s.organization_id) (Words s.definition)
+    (Words s.description) ↔ (◌≡◌ {A = Option System} (Some s) (Some wanted))
 system_is wanted s = (
   λ (a, b, c, d, e). ap Some (together (same_some a) (same_some b) (same_some c) (same_some d) (same_some e)),
   λ e. let it = same_some e in (
@@ -37,7 +39,8 @@ system_is wanted s = (
   where
     together : s.name ≡ wanted.name → s.organization ≡ wanted.organization → s.organization_id ≡ wanted.organization_id
         → s.definition ≡ wanted.definition → s.description ≡ wanted.description → s ≡ wanted
-    together a b c d e = λ i. record { name = a i; organization = b i; organization_id = c i; definition = d i; description = e i }
+    together a b c d e = λ i. record
+        { name = a i; organization = b i; organization_id = c i; definition = d i; description = e i }
 
 nothing_is : (wanted : System) → shows_by wanted Null Null Null Null Null ↔ (◌≡◌ {A = Option System} None (Some wanted))
 nothing_is wanted = (λ (a, b, c, d, e). absurd (let f = a in cc), λ e. absurd (let f = e in cc))
@@ -53,37 +56,56 @@ pub one_row : (rows : List Row) (row : Row) (A : Type 0) → rows ≡ row ∷ []
 one_row rows row A is = (λ f. f row (subst (λ l. lists.Has l row) (sym is) (inl refl)), λ a r there. a)
 
 module _ (version : ℤ) (db : Trees) (p : Package) (stands : StandsFor version db p) where
-  at_system : (Q : Row → Type 0) (P : Option System → Type 0) (id : ℤ) → Q [] ↔ P None → ((s : System) (x : ⊤) → Q (system_row id s) ↔ P (Some s))
+  at_system : (Q : Row → Type 0) (P : Option System → Type 0) (id : ℤ) → Q [] ↔ P None
+      → ((s : System) (x : ⊤) → Q (system_row id s) ↔ P (Some s))
       → ((r : Row) → lists.Has (found db id) r → Q r) ↔ P (get p.systems id)
-  at_system Q P id none some = joined as_whole system_row (db 0) p.systems (covered_whole stands.holds.systems) _ id (λ l s y. number_is l id) Q P none some
+  at_system Q P id none some = joined as_whole system_row (db 0) p.systems (covered_whole stands.holds.systems) _ id
+      (λ l s y. number_is l id) Q P none some
 
   abbrev shown : Row → Row → Row → Row
   shown a b c = column a 1 ∷ column a 3 ∷ column a 4 ∷ column a 5 ∷ column a 6 ∷ column b 1 ∷ column b 3 ∷ column b 4
       ∷ column b 5 ∷ column b 6 ∷ column c 1 ∷ column c 3 ∷ column c 4 ∷ column c 5 ∷ column c 6 ∷ []
 
   with_third : (a b : Row)
-      → ((c : Row) → lists.Has (found db (pos 0)) c → IsGivenRow (shown a b c)) ↔ (of_row geographic a × of_row undefined_cartesian b × (get p.systems (pos 0) ≡ Some undefined_geographic))
-  with_third a b = at_system (λ c. IsGivenRow (shown a b c)) (λ o. of_row geographic a × of_row undefined_cartesian b × (o ≡ Some undefined_geographic)) (pos 0)
-      (let n = nothing_is undefined_geographic in (λ h. (h.geographic_is, h.cartesian_is, n.0 h.undefined_is), λ (x, y, z). record { geographic_is = x; cartesian_is = y; undefined_is = n.1 z }))
+      → ((c : Row) → lists.Has (found db (pos 0)) c → IsGivenRow (shown a b c))
+      ↔ (of_row geographic a × of_row undefined_cartesian b × (get p.systems (pos 0) ≡ Some undefined_geographic))
+  with_third a b = at_system (λ c. IsGivenRow (shown a b c)) (λ o. of_row geographic a × of_row undefined_cartesian b
+      × (o ≡ Some undefined_geographic)) (pos 0)
+      (let n = nothing_is undefined_geographic in (
+        λ h. (h.geographic_is, h.cartesian_is, n.0 h.undefined_is),
+        λ (x, y, z). record
+            { geographic_is = x; cartesian_is = y; undefined_is = n.1 z },
+      ))
       (λ s u. let n = system_is undefined_geographic s in (
         λ h. (h.geographic_is, h.cartesian_is, n.0 h.undefined_is),
         λ (x, y, z).
             record { geographic_is = x; cartesian_is = y; undefined_is = n.1 z },
       ))
 
-  with_second : (a : Row) → ((b : Row) → lists.Has (found db (negsuc 0)) b → (c : Row) → lists.Has (found db (pos 0)) c → IsGivenRow (shown a b c))
-      ↔ (of_row geographic a × (get p.systems (negsuc 0) ≡ Some undefined_cartesian) × (get p.systems (pos 0) ≡ Some undefined_geographic))
+  with_second : (a : Row) → ((b : Row) → lists.Has (found db (negsuc 0)) b → (c : Row) → lists.Has (found db (pos 0)) c
+      → IsGivenRow (shown a b c))
+      ↔ (of_row geographic a × (get p.systems (negsuc 0) ≡ Some undefined_cartesian)
+      × (get p.systems (pos 0) ≡ Some undefined_geographic))
   with_second a = at_system (λ b. (c : Row) → lists.Has (found db (pos 0)) c → IsGivenRow (shown a b c))
-      (λ o. of_row geographic a × (o ≡ Some undefined_cartesian) × (get p.systems (pos 0) ≡ Some undefined_geographic)) (negsuc 0)
-      (let n = nothing_is undefined_cartesian in let w = with_third a [] in (λ h. let t = w.0 h in (t.0, n.0 t.1, t.2), λ (x, y, z). w.1 (x, n.1 y, z)))
-      (λ s u. let n = system_is undefined_cartesian s in let w = with_third a (system_row (negsuc 0) s) in (λ h. let t = w.0 h in (t.0, n.0 t.1, t.2), λ (x, y, z). w.1 (x, n.1 y, z)))
+      (λ o. of_row geographic a × (o ≡ Some undefined_cartesian) × (get p.systems (pos 0) ≡ Some undefined_geographic))
+      (negsuc 0)
+      (let n = nothing_is undefined_cartesian in let w =
+      with_third a [] in (λ h. let t = w.0 h in (t.0, n.0 t.1, t.2), λ (x, y, z). w.1 (x, n.1 y, z)))
+      (λ s u. let n = system_is undefined_cartesian s in let w = with_third a (system_row (negsuc 0) s) in
+      (λ h. let t = w.0 h in (t.0, n.0 t.1, t.2), λ (x, y, z). w.1 (x, n.1 y, z)))
 
-  all_three : ((a : Row) → lists.Has (found db (pos 4326)) a → (b : Row) → lists.Has (found db (negsuc 0)) b → (c : Row) → lists.Has (found db (pos 0)) c → IsGivenRow (shown a b c))
-      ↔ ((get p.systems (pos 4326) ≡ Some geographic) × (get p.systems (negsuc 0) ≡ Some undefined_cartesian) × (get p.systems (pos 0) ≡ Some undefined_geographic))
-  all_three = at_system (λ a. (b : Row) → lists.Has (found db (negsuc 0)) b → (c : Row) → lists.Has (found db (pos 0)) c → IsGivenRow (shown a b c))
-      (λ o. (o ≡ Some geographic) × (get p.systems (negsuc 0) ≡ Some undefined_cartesian) × (get p.systems (pos 0) ≡ Some undefined_geographic)) (pos 4326)
-      (let n = nothing_is geographic in let w = with_second [] in (λ h. let t = w.0 h in (n.0 t.0, t.1, t.2), λ (x, y, z). w.1 (n.1 x, y, z)))
-      (λ s u. let n = system_is geographic s in let w = with_second (system_row (pos 4326) s) in (λ h. let t = w.0 h in (n.0 t.0, t.1, t.2), λ (x, y, z). w.1 (n.1 x, y, z)))
+  all_three : ((a : Row) → lists.Has (found db (pos 4326)) a → (b : Row) → lists.Has (found db (negsuc 0)) b → (c : Row)
+      → lists.Has (found db (pos 0)) c → IsGivenRow (shown a b c))
+      ↔ ((get p.systems (pos 4326) ≡ Some geographic) × (get p.systems (negsuc 0) ≡ Some undefined_cartesian)
+      × (get p.systems (pos 0) ≡ Some undefined_geographic))
+  all_three = at_system (λ a. (b : Row) → lists.Has (found db (negsuc 0)) b → (c : Row) → lists.Has (found db (pos 0)) c
+      → IsGivenRow (shown a b c))
+      (λ o. (o ≡ Some geographic) × (get p.systems (negsuc 0) ≡ Some undefined_cartesian)
+      × (get p.systems (pos 0) ≡ Some undefined_geographic)) (pos 4326)
+      (let n = nothing_is geographic in let w =
+      with_second [] in (λ h. let t = w.0 h in (n.0 t.0, t.1, t.2), λ (x, y, z). w.1 (n.1 x, y, z)))
+      (λ s u. let n = system_is geographic s in let w = with_second (system_row (pos 4326) s) in
+      (λ h. let t = w.0 h in (n.0 t.0, t.1, t.2), λ (x, y, z). w.1 (n.1 x, y, z)))
 
   three : ((a : Row) → lists.Has (found db (pos 4326)) a → (b : Row) → lists.Has (found db (negsuc 0)) b → (c : Row)
       → lists.Has (found db (pos 0)) c → IsGivenRow (shown a b c)) ↔ GivenSystems p.systems

@@ -6,7 +6,8 @@ use Rattle.mm_walk.specs.Columns.{number_of, text_bytes, is_there, IsPyramidKind
 
 -- a system, the same if it stands, and a kind
 abbrev pub MayNameRow : Row → Type 0
-MayNameRow r = IfSome (number_of (column r 0)) (λ system. IsTrue (is_there (column r 1)) × (IsPyramidKind (column r 2) → IsPlane system))
+MayNameRow r = IfSome (number_of (column r 0))
+    (λ system. IsTrue (is_there (column r 1)) × (IsPyramidKind (column r 2) → IsPlane system))
 
 -- the tables of two contents rows with one identifier, which are the same
 abbrev pub IsSameRow : Row → Type 0
@@ -22,7 +23,8 @@ IsAbsentRow r = is_there (column r 0) ≡ false
 
 -- low and high bounds, some of which may be missing
 abbrev pub IsOrderedRow : Row → Type 0
-IsOrderedRow r = IsOrdered (number_of (column r 0)) (number_of (column r 2)) × IsOrdered (number_of (column r 1)) (number_of (column r 3))
+IsOrderedRow r = IsOrdered (number_of (column r 0)) (number_of (column r 2))
+    × IsOrdered (number_of (column r 1)) (number_of (column r 3))
 
 -- a kind, a contents row, and its matrix set if there is one
 pub record IsPlacedRow (r : Row) : Type 0 where

@@ -11,8 +11,10 @@ covered_by _ _ _ _ _ = ⊥
 -- a kind, the extent of a matrix set, and a matrix
 pub record IsFittingRow (r : Row) : Type 0 where
   pub kind : IsPyramidKind (column r 0)
-  pub across : covered_by (number_of (column r 1)) (number_of (column r 3)) (number_of (column r 5)) (number_of (column r 7)) (number_of (column r 9))
-  pub down : covered_by (number_of (column r 2)) (number_of (column r 4)) (number_of (column r 6)) (number_of (column r 8)) (number_of (column r 10))
+  pub across : covered_by (number_of (column r 1)) (number_of (column r 3)) (number_of (column r 5))
+      (number_of (column r 7)) (number_of (column r 9))
+  pub down : covered_by (number_of (column r 2)) (number_of (column r 4)) (number_of (column r 6))
+      (number_of (column r 8)) (number_of (column r 10))
 
 -- the pixel sizes of two matrices, the one at the lower zoom first
 abbrev pub finer_by : Option ℤ → Option ℤ → Option ℤ → Option ℤ → Type 0
@@ -21,7 +23,8 @@ finer_by _ _ _ _ = ⊥
 
 -- the pixel sizes of two matrices of a pyramid, x and y of the one at the lower zoom level first
 abbrev pub IsFinerRow : Row → Type 0
-IsFinerRow r = finer_by (number_of (column r 0)) (number_of (column r 1)) (number_of (column r 2)) (number_of (column r 3))
+IsFinerRow r = finer_by (number_of (column r 0)) (number_of (column r 1)) (number_of (column r 2))
+    (number_of (column r 3))
 
 -- the second zoom is the one after the first
 abbrev pub next_by : Option ℤ → Option ℤ → Type 0

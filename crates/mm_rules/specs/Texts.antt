@@ -33,7 +33,8 @@ distinct_identifiers = codes "SELECT a.table_name, b.table_name FROM gpkg_conten
 abbrev pub mapping_names : List ℕ
 mapping_names = codes "SELECT c.table_name FROM gpkgext_relations AS r LEFT JOIN gpkg_contents AS c ON c.table_name = r.mapping_table_name ORDER BY r.mapping_table_name"
 
--- for each contents row the kind, the data type, bounds and system, and the bounds and system of the matrix set, if it stands
+-- for each contents row the kind, the data type, bounds and system, and the bounds and system of the matrix set, if it
+-- stands
 abbrev pub registered : List ℕ
 registered = codes "SELECT k.kind, c.data_type, c.min_x, c.min_y, c.max_x, c.max_y, c.srs_id, s.min_x, s.min_y, s.max_x, s.max_y, s.srs_id FROM gpkg_contents AS c LEFT JOIN mm_tables AS k ON k.table_name = c.table_name LEFT JOIN gpkg_tile_matrix_set AS s ON s.table_name = c.table_name ORDER BY c.table_name"
 
@@ -65,7 +66,8 @@ media_in_tables = codes "SELECT k.kind FROM mm_media AS m LEFT JOIN mm_tables AS
 abbrev pub relations_suited : List ℕ
 relations_suited = codes "SELECT b.kind, c.kind, r.base_primary_column, r.related_primary_column, r.relation_name FROM gpkgext_relations AS r LEFT JOIN mm_tables AS b ON b.table_name = r.base_table_name LEFT JOIN mm_tables AS c ON c.table_name = r.related_table_name ORDER BY r.mapping_table_name"
 
--- for each mapping row its relation, the attribute row and the medium at its base id, and the two at its related id, as they stand
+-- for each mapping row its relation, the attribute row and the medium at its base id, and the two at its related id, as
+-- they stand
 abbrev pub pairings_join : List ℕ
 pairings_join = codes "SELECT r.mapping_table_name, a.id, b.id, c.id, d.id FROM mm_map AS m LEFT JOIN gpkgext_relations AS r ON r.mapping_table_name = m.mapping LEFT JOIN mm_rows AS a ON a.table_name = r.base_table_name AND a.id = m.base_id LEFT JOIN mm_media AS b ON b.table_name = r.base_table_name AND b.id = m.base_id LEFT JOIN mm_rows AS c ON c.table_name = r.related_table_name AND c.id = m.related_id LEFT JOIN mm_media AS d ON d.table_name = r.related_table_name AND d.id = m.related_id ORDER BY m.mapping, m.base_id, m.related_id"
 

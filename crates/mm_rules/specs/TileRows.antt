@@ -10,4 +10,5 @@ inside_by _ _ _ _ = ⊥
 
 -- the column and row of a tile, and the sides of the matrix at its zoom level, if one stands
 abbrev pub IsInsideRow : Row → Type 0
-IsInsideRow r = inside_by (number_of (column r 0)) (number_of (column r 1)) (number_of (column r 2)) (number_of (column r 3))
+IsInsideRow r = inside_by (number_of (column r 0)) (number_of (column r 1)) (number_of (column r 2))
+    (number_of (column r 3))

@@ -14,5 +14,6 @@ use Rattle.mm_io.specs.Records.{Record}
 pub spelled_within : (fields : Record) (c : Command) → Spells current fields c → IsWithin current c
 spelled_within fields c h = command_within (Ok c) (HoldsAgainst current fields) fields h
 
-pub step_meets : (p : Package) (c : Command) (moment : ℕ) → IsMoment moment → Meets current p → IsWithin current c → Meets current (step p c moment)
+pub step_meets : (p : Package) (c : Command) (moment : ℕ) → IsMoment moment → Meets current p → IsWithin current c
+    → Meets current (step p c moment)
 step_meets p c moment low meets within = step_keeps current p c moment meets within low

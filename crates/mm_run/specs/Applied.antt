@@ -21,7 +21,8 @@ LeavesOnly {D} shows p = (db : D) → shows.may_leave db → shows.stands_for db
 -- each stands for the package as it was or, where nothing refuses the command, for the one that the step gives
 abbrev pub LeavesEither : {D : Type 0} → Shown D → Package → Command → ℕ → Type 0
 LeavesEither {D} shows p command moment =
-    (db : D) → shows.may_leave db → shows.stands_for db p ⊎ ((refusal p command ≡ None) × shows.stands_for db (step p command moment))
+    (db : D) → shows.may_leave db → shows.stands_for db p
+    ⊎ ((refusal p command ≡ None) × shows.stands_for db (step p command moment))
 
 -- what is answered, and what then is settled or may be left
 abbrev pub IsApplied : {D : Type 0} → Package → Command → ℕ → Answer → Shown D → Type 0

@@ -1,5 +1,6 @@
 -- The run of a list on a session that has to be opened again: only records that spell no command are answered.
-use Rattle.std.specs.Prelude.{ℕ, ◌<◌, ◌≡◌, get_or, List, [], ◌∷◌, ◌++◌, Bool, true, false, Option, Some, None, Result, Ok, Err, length, take, ⊤}
+use Rattle.std.specs.Prelude.{ℕ, ◌<◌, ◌≡◌, get_or, List, [], ◌∷◌, ◌++◌, Bool, true, false, Option, Some, None, Result}
+use Rattle.std.specs.Prelude.{Ok, Err, length, take, ⊤}
 use Rattle.std.specs.List.{concat}
 use Rattle.std.specs.Io.KnownBytes.{Appends}
 use Rattle.csv.specs.Reading.{AreRecords, Reached, ReadRecord, default_config}
@@ -33,7 +34,8 @@ AreRefused _ _ = ⊥
 
 -- behind the first so many records of the bytes stands one that spells a command
 abbrev pub SpellsNext : List ℕ → ℕ → Type 0
-SpellsNext bytes count = (count < length (records_of bytes)) × (command : Command) × IsReadAs (get_or (records_of bytes) count []) (Ok command)
+SpellsNext bytes count = (count < length (records_of bytes)) × (command : Command)
+    × IsReadAs (get_or (records_of bytes) count []) (Ok command)
 
 -- No record of the bytes spells a command; the line of each tells its refusal, and so many are counted.
 pub record EndedAll (bytes : List ℕ) (old new : Written) (t : Tally) : Type 0 where
@@ -44,8 +46,8 @@ pub record EndedAll (bytes : List ℕ) (old new : Written) (t : Tally) : Type 0 
   pub refused : t.refused ≡ length numbers
   pub written : t.written ≡ length numbers
 
--- The first records spell no command, and are answered with their refusals. The fault is 92 only where the next one spells a
--- command.
+-- The first records spell no command, and are answered with their refusals. The fault is 92 only where the next one
+-- spells a command.
 pub record EndedSome (bytes : List ℕ) (old new : Written) (e : RunFault) : Type 0 where
   pub numbers : List ℕ
   pub read : AreRefused (take (length numbers) (records_of bytes)) numbers
@@ -84,17 +86,20 @@ IsEnded fields (answers.Fault fault) = fault.0 ≡ reopen.0 → (command : Comma
 abbrev pub IsEndedTurn : {T : Type 0} → (T → Option (List ℕ)) → Reader T → Reader T → Option Answer → Type 0
 IsEndedTurn remaining old new None = (fields : Record) × ReadRecord remaining old new false fields
 IsEndedTurn remaining old new (Some answers.Ok) = ⊥
-IsEndedTurn remaining old new (Some (answers.Refused why)) = (fields : Record) × ReadRecord remaining old new true fields × IsEnded fields (answers.Refused why)
+IsEndedTurn remaining old new (Some (answers.Refused why)) = (fields : Record)
+    × ReadRecord remaining old new true fields × IsEnded fields (answers.Refused why)
 IsEndedTurn remaining old new (Some (answers.Fault fault)) =
     fault.0 ≡ reopen.0 → (fields : Record) × ReadRecord remaining old new true fields
     × (command : Command) × IsReadAs fields (Ok command)
 
 -- the record behind these spells a command
 abbrev pub IsReadNext : List ℕ → State → List Record → Type 0
-IsReadNext xs s rows = (fields : Record) × (command : Command) × (s2 : State) × (rest : List ℕ) × Reached default_config s xs (rows ++ fields ∷ []) s2 rest × IsReadAs fields (Ok command)
+IsReadNext xs s rows = (fields : Record) × (command : Command) × (s2 : State) × (rest : List ℕ)
+    × Reached default_config s xs (rows ++ fields ∷ []) s2 rest × IsReadAs fields (Ok command)
 
 -- the records so far are these, refused so and told so; the reader stands behind them
-pub record AreRefusedSoFar (xs : List ℕ) (s : State) (source : Option (List ℕ)) (s2 : State) (t : Tally) (old new : Option (List ℕ)) : Type 0 where
+pub record AreRefusedSoFar (xs : List ℕ) (s : State) (source : Option (List ℕ)) (s2 : State) (t : Tally)
+    (old new : Option (List ℕ)) : Type 0 where
   pub numbers : List ℕ
   pub rows : List Record
   pub rest : List ℕ

@@ -1,5 +1,6 @@
 -- The run of a list of records.
-use Rattle.std.specs.Prelude.{ℕ, ◌+◌, ◌≡◌, ◌≢◌, ◌⊎◌, List, [], ◌∷◌, ◌++◌, Bool, true, false, Option, Some, None, Result, Ok, Err, length, take}
+use Rattle.std.specs.Prelude.{ℕ, ◌+◌, ◌≡◌, ◌≢◌, ◌⊎◌, List, [], ◌∷◌, ◌++◌, Bool, true, false, Option, Some, None, Result}
+use Rattle.std.specs.Prelude.{Ok, Err, length, take}
 use Rattle.std.specs.List.{concat}
 use Rattle.std.specs.Io.KnownBytes.{Appends}
 use Rattle.csv.specs.Reading.{AreRecords, Reached, ReadRecord, default_config}
@@ -33,7 +34,8 @@ IsRunFault fault failed = IsApplyFault fault ⊎ ((fault ≡ input.0) × (failed
 -- package meets the rules.
 abbrev pub AreFirstParts : {D : Type 0} → Shown D → Package → List Call → ℕ → Type 0
 AreFirstParts {D} shows p calls acknowledged =
-    (db : D) → shows.may_leave db → (q : Package) × shows.stands_for db q × IsFirstPart p calls acknowledged q × Meets current q
+    (db : D) → shows.may_leave db → (q : Package) × shows.stands_for db q × IsFirstPart p calls acknowledged q
+    × Meets current q
 
 -- the answers that were given: those to the records that were counted
 abbrev pub given_of : Package → ℕ → List Reading → Tally → List Answer
@@ -43,12 +45,13 @@ given_of p moment readings t = answers_to p moment (take (t.accepted + t.refused
 abbrev pub acknowledged_of : Package → ℕ → List Reading → Tally → ℕ
 acknowledged_of p moment readings t = accepted_of (take t.written (given_of p moment readings t))
 
--- Where a run stopped. All that was read was answered, and the session works on with the package after it; or one more command
--- was read, and has failed.
+-- Where a run stopped. All that was read was answered, and the session works on with the package after it; or one more
+-- command was read, and has failed.
 abbrev pub StopsBehind : (Package → Type 0) → Type 0 → Package → ℕ → List Reading → ℕ → Type 0
 StopsBehind works failed p moment readings answered =
     ((length readings ≡ answered) × works (run p (calls_of moment readings)))
-    ⊎ (failed × (first : List Reading) × (command : Command) × (readings ≡ first ++ Ok command ∷ []) × (length first ≡ answered))
+    ⊎ (failed × (first : List Reading) × (command : Command) × (readings ≡ first ++ Ok command ∷ [])
+    × (length first ≡ answered))
 
 -- the session works as it did, settled for this package
 abbrev pub WorksOn : {D : Type 0} → Bool → Shown D → Package → Type 0
@@ -57,21 +60,24 @@ WorksOn before shows p = (shows.failed ≡ before) × IsSound shows.settled p
 -- What holds for a package that the session was settled for and for the bytes that the reader had still to give, where
 -- the store was clean.
 abbrev pub OnRun : Type 0 → (Package → Type 0) → Option (List ℕ) → (Package → List ℕ → Type 0) → Type 0
-OnRun clean settled source P = clean → (p : Package) → IsSound settled p → (bytes : List ℕ) → source ≡ Some bytes → P p bytes
+OnRun clean settled source P = clean → (p : Package) → IsSound settled p → (bytes : List ℕ) → source ≡ Some bytes
+    → P p bytes
 
--- What holds for a package of the rules that the session was settled for, where the store was clean, whatever the reader tells.
+-- What holds for a package of the rules that the session was settled for, where the store was clean, whatever the
+-- reader tells.
 abbrev pub OnSound : Type 0 → (Package → Type 0) → (Package → Type 0) → Type 0
 OnSound clean settled P = clean → (p : Package) → IsSound settled p → P p
 
--- Each database that may be left stands for a package that meets the rules; and a session that has not failed in between is
--- settled for one.
+-- Each database that may be left stands for a package that meets the rules; and a session that has not failed in
+-- between is settled for one.
 abbrev pub IsKept : {D : Type 0} → Bool → Shown D → Type 0
 IsKept {D} before shows =
     ((db : D) → shows.may_leave db → (q : Package) × shows.stands_for db q × Meets current q)
     × (shows.failed ≡ before → (q : Package) × IsSound shows.settled q)
 
 -- A run without a fault: each record of the bytes is answered, and all that is accepted stands.
-pub record RanAll {D : Type 0} (p : Package) (moment : ℕ) (bytes : List ℕ) (shows : Shown D) (old new : Written) (t : Tally) : Type 0 where
+pub record RanAll {D : Type 0} (p : Package) (moment : ℕ) (bytes : List ℕ) (shows : Shown D) (old new : Written)
+    (t : Tally) : Type 0 where
   pub readings : List Reading
   pub read : AreReadAs (records_of bytes) readings
   pub text : Appends old.contents new.contents (concat (lines (answers_to p moment readings)))
@@ -103,24 +109,25 @@ RunTellsReopening before failed same (Err e) =
 abbrev pub TellsWriter : Bool → Bool → RunFault → Type 0
 TellsWriter before failed e = (e.fault.0 ≡ output.0 → failed ≡ true) × (e.fault.0 ≢ output.0 → failed ≡ before)
 
--- What a run tells of a reader that had not failed before: without a fault it has not failed since, and where it has the fault is
--- 96, or 97 where the writer failed too.
+-- What a run tells of a reader that had not failed before: without a fault it has not failed since, and where it has
+-- the fault is 96, or 97 where the writer failed too.
 abbrev pub TellsReader : Bool → Bool → Result Tally RunFault → Type 0
 TellsReader before failed (Ok t) = WorksStill before failed
 TellsReader before failed (Err e) = before ≡ false → failed ≡ true → (e.fault.0 ≡ input.0) ⊎ (e.fault.0 ≡ output.0)
 
--- Where a fault stopped a run: each of these answers was counted and told, with the line of the fault behind them; at 97 up to the
--- line that was cut.
+-- Where a fault stopped a run: each of these answers was counted and told, with the line of the fault behind them; at
+-- 97 up to the line that was cut.
 pub record IsStopped (given : List Answer) (e : RunFault) (old new : Written) : Type 0 where
   pub counted : AreCounted e.tally given
   pub all : e.tally.accepted + e.tally.refused ≡ length given
   pub text : IsStoppedText given e old.contents new.contents
   pub writer : TellsWriter old.failed new.failed e
 
--- What a run told, whatever it was of: the lines of some answers, as many as are counted and as lines were written whole; or it
--- was stopped by a fault.
+-- What a run told, whatever it was of: the lines of some answers, as many as are counted and as lines were written
+-- whole; or it was stopped by a fault.
 abbrev pub IsToldOf : Written → Written → Result Tally RunFault → Type 0
-IsToldOf old new (Ok t) = (given : List Answer) × AreTold given t old.contents new.contents × (t.accepted + t.refused ≡ t.written)
+IsToldOf old new (Ok t) = (given : List Answer) × AreTold given t old.contents new.contents
+    × (t.accepted + t.refused ≡ t.written)
 IsToldOf old new (Err e) = (given : List Answer) × IsStopped given e old new
 
 -- All that was written was flushed, where it was before; after a fault, where that is not the writer's.
@@ -133,11 +140,14 @@ TellsFlush before flushed (Err e) = e.fault.0 ≢ output.0 → flushed ≡ true
 abbrev pub IsAnswered : {D : Type 0} → Record → Package → ℕ → Bool → Answer → Shown D → Type 0
 IsAnswered fields p moment before (answers.Fault fault) shows =
     WorksOn before shows p
-    ⊎ ((shows.failed ≡ true) × (command : Command) × IsReadAs fields (Ok command) × Meets current (step p command moment) × LeavesEither shows p command moment)
+    ⊎ ((shows.failed ≡ true) × (command : Command) × IsReadAs fields (Ok command)
+    × Meets current (step p command moment) × LeavesEither shows p command moment)
 IsAnswered fields p moment before answers.Ok shows =
-    (reading : Reading) × IsReadAs fields reading × (answers.Ok ≡ answer_to p reading) × IsSound shows.settled (after p moment reading)
+    (reading : Reading) × IsReadAs fields reading × (answers.Ok ≡ answer_to p reading)
+    × IsSound shows.settled (after p moment reading)
 IsAnswered fields p moment before (answers.Refused why) shows =
-    (reading : Reading) × IsReadAs fields reading × (answers.Refused why ≡ answer_to p reading) × IsSound shows.settled (after p moment reading)
+    (reading : Reading) × IsReadAs fields reading × (answers.Refused why ≡ answer_to p reading)
+    × IsSound shows.settled (after p moment reading)
 
 -- what one turn tells of a reader
 abbrev pub TellsTurn : Bool → Bool → Option Answer → Type 0
@@ -147,17 +157,23 @@ TellsTurn before failed (Some (answers.Refused why)) = WorksStill before failed
 TellsTurn before failed (Some (answers.Fault fault)) = TellsFailing before failed fault.0
 
 -- a record was read and answered, or couldn't be read, or the end was reached
-abbrev pub Turns : {D T : Type 0} → (T → Option (List ℕ)) → Reader T → Reader T → Package → ℕ → Bool → Option Answer → Shown D → Type 0
-Turns remaining old new p moment before None shows = (fields : Record) × ReadRecord remaining old new false fields × IsSound shows.settled p
+abbrev pub Turns : {D T : Type 0} → (T → Option (List ℕ)) → Reader T → Reader T → Package → ℕ → Bool → Option Answer
+    → Shown D → Type 0
+Turns remaining old new p moment before None shows = (fields : Record) × ReadRecord remaining old new false fields
+    × IsSound shows.settled p
 Turns remaining old new p moment before (Some answers.Ok) shows =
     (fields : Record) × ReadRecord remaining old new true fields × IsAnswered fields p moment before answers.Ok shows
 Turns remaining old new p moment before (Some (answers.Refused why)) shows =
-    (fields : Record) × ReadRecord remaining old new true fields × IsAnswered fields p moment before (answers.Refused why) shows
+    (fields : Record) × ReadRecord remaining old new true fields
+    × IsAnswered fields p moment before (answers.Refused why) shows
 Turns remaining old new p moment before (Some (answers.Fault fault)) shows =
-    WorksOn before shows p ⊎ ((fields : Record) × ReadRecord remaining old new true fields × IsAnswered fields p moment before (answers.Fault fault) shows)
+    WorksOn before shows p ⊎ ((fields : Record) × ReadRecord remaining old new true fields
+    × IsAnswered fields p moment before (answers.Fault fault) shows)
 
--- the records so far are these, read so and answered so; the package after them is settled, and the reader stands behind them
-pub record IsSoFar (p : Package) (moment : ℕ) (xs : List ℕ) (s : State) (source : Option (List ℕ)) (s2 : State) (settled : Package → Type 0) (given : List Answer) : Type 0 where
+-- the records so far are these, read so and answered so; the package after them is settled, and the reader stands
+-- behind them
+pub record IsSoFar (p : Package) (moment : ℕ) (xs : List ℕ) (s : State) (source : Option (List ℕ)) (s2 : State)
+    (settled : Package → Type 0) (given : List Answer) : Type 0 where
   pub rows : List Record
   pub rest : List ℕ
   pub here : source ≡ Some rest
@@ -168,7 +184,8 @@ pub record IsSoFar (p : Package) (moment : ℕ) (xs : List ℕ) (s : State) (sou
   pub stands : IsSound settled (run p (calls_of moment readings))
 
 -- the records are these, to the end
-pub record IsAll (p : Package) (moment : ℕ) (xs : List ℕ) (s : State) (settled : Package → Type 0) (given : List Answer) : Type 0 where
+pub record IsAll (p : Package) (moment : ℕ) (xs : List ℕ) (s : State) (settled : Package → Type 0)
+    (given : List Answer) : Type 0 where
   pub rows : List Record
   pub are : AreRecords default_config s xs rows
   pub readings : List Reading

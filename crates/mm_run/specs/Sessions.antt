@@ -9,4 +9,5 @@ shown ghosts session = shown_by ghosts.has_failed ghosts.settled ghosts.may_leav
 
 -- what it shows that stood like this at first, and read as this package
 abbrev pub shown_since : {A : Type 0} (ghosts : Ghosts A) → A → Package → A → Shown ghosts.Database
-shown_since ghosts first was session = seen_since ghosts.has_failed ghosts.seen ghosts.may_leave ghosts.stands_for first was session
+shown_since ghosts first was session = seen_since ghosts.has_failed ghosts.seen ghosts.may_leave ghosts.stands_for first
+    was session

@@ -29,12 +29,14 @@ AreCounted t given = (t.accepted ≡ accepted_of given) × (t.refused ≡ refuse
 
 -- line n was written whole and flushed, and tells no fault
 abbrev pub GoesOn : Written → Written → ℕ → Answer → Tally → Tally → Type 0
-GoesOn old new n a t t2 = IsAnswer a × (t2 ≡ with_line (with_answer a t)) × Appends old.contents new.contents (line n a) × (new.failed ≡ old.failed)
+GoesOn old new n a t t2 = IsAnswer a × (t2 ≡ with_line (with_answer a t)) × Appends old.contents new.contents (line n a)
+    × (new.failed ≡ old.failed)
 
 -- the line of a fault was written whole, and the writer has not failed; or it did behind the line, or inside it
 abbrev pub Stops : Written → Written → ℕ → Answer → Tally → RunFault → Type 0
 Stops old new n a t e =
-    ((a ≡ answers.Fault e.fault) × (new.failed ≡ old.failed) × (e.tally ≡ with_line (with_answer a t)) × Appends old.contents new.contents (line n a))
+    ((a ≡ answers.Fault e.fault) × (new.failed ≡ old.failed) × (e.tally ≡ with_line (with_answer a t))
+    × Appends old.contents new.contents (line n a))
     ⊎ ((e.fault.0 ≡ output.0) × (new.failed ≡ true) × (e.tally ≡ with_line (with_answer a t))
     × Appends old.contents new.contents (line n a))
     ⊎ ((e.fault.0 ≡ output.0) × (new.failed ≡ true) × (e.tally ≡ with_answer a t) × (taken : ℕ)
@@ -47,7 +49,8 @@ AreTold given t old new = AreCounted t given × (t.written ≡ length given) × 
 -- the first so many of some lines whole, and a front of the next
 abbrev pub IsCutAt : List (List ℕ) → ℕ → List ℕ → Type 0
 IsCutAt ls whole bytes = ((whole ≡ length ls) × (bytes ≡ concat ls))
-    ⊎ ((whole < length ls) × (taken : ℕ) × (taken < length (get_or ls whole [])) × (bytes ≡ concat (take whole ls) ++ take taken (get_or ls whole [])))
+    ⊎ ((whole < length ls) × (taken : ℕ) × (taken < length (get_or ls whole []))
+    × (bytes ≡ concat (take whole ls) ++ take taken (get_or ls whole [])))
 
 -- a fault that has a line of its own: of a command, or 96 of the reader
 abbrev pub HasLine : ℕ → Type 0

@@ -1,5 +1,6 @@
 -- What is printed of rows is read back as the records of each.
-use Rattle.std.proofs.Common.{◌≡◌, ◌+◌, ℕ, zero, suc, ℤ, List, [], ◌∷◌, map, length, refl, ap, arith, length-append, drop}
+use Rattle.std.proofs.Common.{◌≡◌, ◌+◌, ℕ, zero, suc, ℤ, List, [], ◌∷◌, map, length, refl, ap, arith, length-append}
+use Rattle.std.proofs.Common.{drop}
 use Rattle.std.specs.Prelude.{◌≤◌}
 use Rattle.csv.specs.Machine.{next_record}
 use Rattle.csv.specs.Reading.{default_config, records_from, strip_bom}
@@ -23,7 +24,8 @@ unfolding records_from
 reads_rows table [] fuel enough = none fuel
 reads_rows table (e ∷ rows) zero enough = absurd (omega (arith, enough))
 reads_rows table (e ∷ rows) (suc fuel) enough =
-    rw (read-write (row_fields table e) (row_records table rows)) (ap (λ l. row_fields table e ∷ l) (reads_rows table rows fuel (omega (arith, enough))))
+    rw (read-write (row_fields table e) (row_records table rows))
+    (ap (λ l. row_fields table e ∷ l) (reads_rows table rows fuel (omega (arith, enough))))
 
 some_byte : (b : ℕ) (bytes : List ℕ) → 1 ≤ length (b ∷ bytes)
 some_byte b bytes = omega arith
@@ -32,7 +34,13 @@ some_byte b bytes = omega arith
 long : (table : Text) (rows : List (ℤ × AttributeRow)) → length rows ≤ length (row_records table rows)
 long table [] = omega arith
 long table (e ∷ rows) =
-    omega (arith, some_byte 114 (drop 1 (row_record table e)), length-append (row_record table e) (row_records table rows), long table rows)
+    omega (
+      arith,
+      some_byte 114 (drop 1 (row_record table e)),
+      length-append (row_record table e)
+          (row_records table rows),
+      long table rows,
+    )
 
 -- a record begins with no byte order mark
 bare : (table : Text) (rows : List (ℤ × AttributeRow)) → strip_bom (row_records table rows) ≡ row_records table rows
@@ -40,5 +48,7 @@ unfolding strip_bom
 bare table [] = refl
 bare table (e ∷ rows) = refl
 
-pub read_back : (table : Text) (rows : List (ℤ × AttributeRow)) → records_of (row_records table rows) ≡ map (row_fields table) rows
-read_back table rows = rw (bare table rows) (reads_rows table rows (length (row_records table rows) + 1) (omega (arith, long table rows)))
+pub read_back : (table : Text) (rows : List (ℤ × AttributeRow))
+    → records_of (row_records table rows) ≡ map (row_fields table) rows
+read_back table rows = rw (bare table rows)
+    (reads_rows table rows (length (row_records table rows) + 1) (omega (arith, long table rows)))

@@ -22,7 +22,8 @@ same_bytes a b = elim (same_key texts b a) as (λ _. bytes_eq a b ≡ same_text 
     by true e apart = absurd (apart ((bytes_eq-Decides a b).0 e))
     by false e apart = e
 
-names : (p : Package) (name : Text) (es : List Entry) (cs : List (Text × Contents)) → map table_told es ≡ map (entry_told p) cs
+names : (p : Package) (name : Text) (es : List Entry) (cs : List (Text × Contents))
+    → map table_told es ≡ map (entry_told p) cs
     → list_any (λ e. bytes_eq e.table name) es ≡ list_any (same_text name) (map (λ (c : Text × Contents). c.0) cs)
 names p name [] [] is = refl
 names p name [] (c ∷ cs) is = absurd cc
@@ -30,7 +31,8 @@ names p name (e ∷ es) [] is = absurd cc
 names p name (e ∷ es) (c ∷ cs) is =
     let head : table_told e ≡ entry_told p c = cc in
     let tail : map table_told es ≡ map (entry_told p) cs = cc in
-    let here : bytes_eq e.table name ≡ same_text name c.0 = same_bytes e.table name ∙ ap (same_text name) (ap (λ (l : Listed). l.table) head) in
+    let here : bytes_eq e.table name ≡ same_text name c.0 = same_bytes e.table name
+    ∙ ap (same_text name) (ap (λ (l : Listed). l.table) head) in
     λ i. here i || names p name es cs tail i
 
 pub stands_in : (p : Package) (name : Text) (es : List Entry) → map table_told es ≡ shown_tables p

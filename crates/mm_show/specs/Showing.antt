@@ -47,17 +47,19 @@ show_refusal p table id = if lists_rows p table then row_refusal p table id else
 -- The text was printed; or a beginning of it, and the fault is 97 exactly where the output failed, and else 90 or 91.
 abbrev pub IsTextPrinted : Written → Written → Text → Result (Unit {0}) Fault → Type 0
 IsTextPrinted old new text (Ok done) = Appends old.contents new.contents text × (new.failed ≡ old.failed)
-IsTextPrinted old new text (Err fault) = IsBegun old.contents new.contents text × ListingTellsWriter old.failed new.failed (Err fault)
+IsTextPrinted old new text (Err fault) = IsBegun old.contents new.contents text
+    × ListingTellsWriter old.failed new.failed (Err fault)
 
 -- some records, or none where there is nothing to show
 abbrev pub records_by : Option ℕ → Text → Text
 records_by None records = records
 records_by (Some number) records = []
 
--- The records of the rows were printed; or the number of why there are none is told, and nothing was; or a fault cut them
--- short.
+-- The records of the rows were printed; or the number of why there are none is told, and nothing was; or a fault cut
+-- them short.
 abbrev pub ShowsRecords : Package → Text → Option ℤ → Written → Written → Result (Option ℕ) Fault → Type 0
-ShowsRecords p table id old new (Ok None) = (show_refusal p table id ≡ None) × Appends old.contents new.contents (row_records table (rows_shown p table id))
+ShowsRecords p table id old new (Ok None) = (show_refusal p table id ≡ None)
+    × Appends old.contents new.contents (row_records table (rows_shown p table id))
 ShowsRecords p table id old new (Ok (Some number)) = (show_refusal p table id ≡ Some number) × (new ≡ old)
 ShowsRecords p table id old new (Err fault) =
     IsBegun old.contents new.contents (records_by (show_refusal p table id) (row_records table (rows_shown p table id)))

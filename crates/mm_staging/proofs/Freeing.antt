@@ -39,42 +39,63 @@ present z = refl
 
 -- a row of the edition that names a blob is found
 pub hits_piece : (edition : Text) (r : Row) (k : PieceKey) (i : StagedRow) (z : ℤ) → past_rowid r ≡ staged_row k i
-    → is_other edition k.edition ≡ false → piece_id i ≡ Some z → passes (equals 1 0 ∷ op1 Not (is_absent 14) ∷ []) (Words edition ∷ []) r ≡ true
+    → is_other edition k.edition ≡ false → piece_id i ≡ Some z
+    → passes (equals 1 0 ∷ op1 Not (is_absent 14) ∷ []) (Words edition ∷ []) r ≡ true
 hits_piece edition r k i z is gone named =
-    let first : equal Binary (column r 1) (Words edition) ≡ true = ap (λ v. equal Binary v (Words edition)) (columns_are r (staged_row k i) 0 is) ∙ equal_text k.edition edition ∙ not-false (same_text k.edition edition) gone in
-    let second : is_true (unary Not (binary (Is Binary) (column r 14) Null)) ≡ true = ap (λ v. is_true (unary Not (binary (Is Binary) v Null))) (columns_are r (staged_row k i) 13 is ∙ ap maybe named) ∙ present z in
-    ap (λ b. b && (is_true (unary Not (binary (Is Binary) (column r 14) Null)) && true)) first ∙ ap (λ b. b && true) second
+    let first : equal Binary (column r 1) (Words edition) ≡ true = ap (λ v. equal Binary v (Words edition))
+    (columns_are r (staged_row k i) 0 is) ∙ equal_text k.edition edition
+    ∙ not-false (same_text k.edition edition) gone in
+    let second : is_true (unary Not (binary (Is Binary) (column r 14) Null)) ≡ true =
+    ap (λ v. is_true (unary Not (binary (Is Binary) v Null))) (columns_are r (staged_row k i) 13 is ∙ ap maybe named)
+    ∙ present z in
+    ap (λ b. b && (is_true (unary Not (binary (Is Binary) (column r 14) Null)) && true)) first
+    ∙ ap (λ b. b && true) second
 
-pub holds_without : (edition : Text) (more : Spare) (version : ℤ) (db : Trees) (x : View) → HoldsAs no_spare version db x
+pub holds_without : (edition : Text) (more : Spare) (version : ℤ) (db : Trees) (x : View)
+    → HoldsAs no_spare version db x
     → ((z : ℤ) → FreedByEdition edition x.kept z → more z ≡ true)
-    → HoldsAs more version (cut edition_place (Words edition) db) (record { content = without_edition_rows edition x.content; kept = kept_without_edition edition x.kept })
+    → HoldsAs more version (cut edition_place (Words edition) db)
+    (record { content = without_edition_rows edition x.content; kept = kept_without_edition edition x.kept })
 holds_without edition more version db x h freed =
     let still : (z : ℤ) → false ≡ true → more z ≡ true = λ z e. cc in
-    let also : (z : ℤ) → FreedByEdition edition h.0.kept z → more z ≡ true = subst (λ k. (z : ℤ) → FreedByEdition edition k z → more z ≡ true) (sym h.1) freed in
-    (drops_edition edition no_spare more version db x.content h.0 still also, drops_edition_keeps edition no_spare more version db x.content h.0 still also ∙ ap (kept_without_edition edition) h.1)
+    let also : (z : ℤ) → FreedByEdition edition h.0.kept z
+    → more z ≡ true = subst (λ k. (z : ℤ) → FreedByEdition edition k z → more z ≡ true) (sym h.1) freed in (
+      drops_edition edition no_spare more version db x.content h.0 still also,
+      drops_edition_keeps edition no_spare more
+          version db x.content h.0 still also ∙ ap (kept_without_edition edition) h.1,
+    )
 
 -- the same of the rows of its pieces alone
-pub holds_without_pieces : (edition : Text) (more : Spare) (version : ℤ) (db : Trees) (x : View) → HoldsAs no_spare version db x
+pub holds_without_pieces : (edition : Text) (more : Spare) (version : ℤ) (db : Trees) (x : View)
+    → HoldsAs no_spare version db x
     → ((z : ℤ) → FreedByEdition edition x.kept z → more z ≡ true)
-    → HoldsAs more version (with_tree db 25 (without (by_text edition) (db 25))) (record { content = record (x.content) { pieces = retain_keys x.content.pieces (λ k. is_other edition k.edition) }; kept = kept_without_edition edition x.kept })
+    → HoldsAs more version (with_tree db 25 (without (by_text edition) (db 25)))
+    (record {
+      content = record (x.content) { pieces = retain_keys x.content.pieces (λ k. is_other edition k.edition) };
+      kept = kept_without_edition edition x.kept;
+    })
 holds_without_pieces edition more version db x h freed =
     let kept = kept_in no_spare no_spare version db x h in
     holds_pieces no_spare more version db x h _ _ (retain_keys x.content.pieces (λ k. is_other edition k.edition))
     (record {
       tiles = kept.tiles;
       media = kept.media;
-      pieces = retains parts.pieces (db 25) x.kept.pieces kept.pieces (by_text edition) (λ k. is_other edition k.edition) (of_other edition);
+      pieces = retains parts.pieces (db 25) x.kept.pieces kept.pieces (by_text edition)
+          (λ k. is_other edition k.edition) (of_other edition);
       blobs = kept.blobs;
       tiles_told = kept.tiles_told;
       media_told = kept.media_told;
-      pieces_told = tells_left piece_keys piece_id piece_with x.kept.shelf x.kept.pieces x.content.pieces (λ k. is_other edition k.edition) kept.pieces_told;
+      pieces_told = tells_left piece_keys piece_id piece_with x.kept.shelf x.kept.pieces x.content.pieces
+          (λ k. is_other edition k.edition) kept.pieces_told;
       are = kept.are;
       named = λ z b is. elim (kept.named z b is) [
         | inl named ↦ elim named [
           | inl tile ↦ inl (inl tile)
           | inr others ↦ elim others [
             | inl medium ↦ inl (inr (inl medium))
-            | inr piece ↦ elim (named_left piece_keys piece_id piece_with x.kept.shelf x.kept.pieces x.content.pieces (λ k. is_other edition k.edition) z piece) [ inl stays ↦ inl (inr (inr stays)) | inr goes ↦ inr (freed z goes) ]
+            | inr piece ↦ elim (named_left piece_keys piece_id piece_with x.kept.shelf x.kept.pieces x.content.pieces
+                (λ k. is_other edition k.edition) z piece)
+                [ inl stays ↦ inl (inr (inr stays)) | inr goes ↦ inr (freed z goes) ]
           ]
         ]
         | inr spared ↦ absurd (let e : false ≡ true = spared in cc)
@@ -82,6 +103,7 @@ holds_without_pieces edition more version db x h freed =
     })
 
 -- what is listed of the pieces is all that the edition frees
-pub listed_too : (edition : Text) (kept : Kept) (blobs : List Row) → ListsEach blobs (FreedByEdition edition kept) → (z : ℤ)
+pub listed_too : (edition : Text) (kept : Kept) (blobs : List Row) → ListsEach blobs (FreedByEdition edition kept)
+    → (z : ℤ)
     → FreedByEdition edition kept z → spare_each blobs no_spare z ≡ true
 listed_too edition kept blobs listed z freed = or_right false (list_any (at_id 0 z) blobs) (listed z freed)

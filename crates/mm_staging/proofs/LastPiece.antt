@@ -1,5 +1,6 @@
 -- The first piece by falling number is the last one, and its number is that of the pieces.
-use Rattle.std.proofs.Common.{◌≡◌, ℕ, zero, suc, ℤ, pos, ◌≤ℤ◌, true, ◌&&◌, List, [], ◌∷◌, Option, Some, None, is_some, refl, sym, ap, subst, ◌∙◌, arith}
+use Rattle.std.proofs.Common.{◌≡◌, ℕ, zero, suc, ℤ, pos, ◌≤ℤ◌, true, ◌&&◌, List, [], ◌∷◌, Option, Some, None, is_some}
+use Rattle.std.proofs.Common.{refl, sym, ap, subst, ◌∙◌, arith}
 use Rattle.std.proofs.lemmas.Int.{ints}
 use Rattle.std.specs.Ordering.{is_lt, int_cmp}
 use Rattle.std.specs.Int.Signed.{≤ℤ_refl}
@@ -49,40 +50,55 @@ falling = record { collation = Binary; descending = true }
 abbrev pub of_edition : Text → Row
 of_edition edition = Words edition ∷ []
 
-module _ (rows : List Row) (ids : FinMap piece_cmp StagedRow) (m : PiecesPart) (there : (k : PieceKey) → contains_key ids k ≡ contains_key m k) (h : Holds past_rowid staged_row rows ids) (edition : Text) where
-  tells : (r : Row) (k : PieceKey) (v : StagedRow) → past_rowid r ≡ staged_row k v → passes last_terms (of_edition edition) r ≡ same_text k.edition edition
+module _ (rows : List Row) (ids : FinMap piece_cmp StagedRow) (m : PiecesPart)
+    (there : (k : PieceKey) → contains_key ids k ≡ contains_key m k) (h : Holds past_rowid staged_row rows ids)
+    (edition : Text) where
+  tells : (r : Row) (k : PieceKey) (v : StagedRow) → past_rowid r ≡ staged_row k v
+      → passes last_terms (of_edition edition) r ≡ same_text k.edition edition
   tells r k v is =
-      ap (λ x. equal Binary x (Words edition) && true) (columns_are r (staged_row k v) 0 is) ∙ ap (λ b. b && true) (equal_text k.edition edition) ∙ and_true (same_text k.edition edition)
+      ap (λ x. equal Binary x (Words edition) && true) (columns_are r (staged_row k v) 0 is)
+      ∙ ap (λ b. b && true) (equal_text k.edition edition) ∙ and_true (same_text k.edition edition)
 
-  numbers : (r s : Row) (k l : PieceKey) (v w : StagedRow) → past_rowid r ≡ staged_row k v → past_rowid s ≡ staged_row l w
+  numbers : (r s : Row) (k l : PieceKey) (v w : StagedRow) → past_rowid r ≡ staged_row k v
+      → past_rowid s ≡ staged_row l w
       → value_cmp (column r 2) (column s 2) ≡ int_cmp k.number l.number
-  numbers r s k l v w p q = ap (λ x. value_cmp x (column s 2)) (columns_are r (staged_row k v) 1 p) ∙ ap (value_cmp (Int k.number)) (columns_are s (staged_row l w) 1 q) ∙ value_cmp-Int k.number l.number
+  numbers r s k l v w p q = ap (λ x. value_cmp x (column s 2)) (columns_are r (staged_row k v) 1 p)
+      ∙ ap (value_cmp (Int k.number)) (columns_are s (staged_row l w) 1 q) ∙ value_cmp-Int k.number l.number
 
   -- the row of a piece of the edition
   row_at : (number : ℤ) → Stands m (piece edition number)
-      → (v : StagedRow) × (r : Row) × IsAmong rows r × (passes last_terms (of_edition edition) r ≡ true) × (past_rowid r ≡ staged_row (piece edition number) v)
+      → (v : StagedRow) × (r : Row) × IsAmong rows r × (passes last_terms (of_edition edition) r ≡ true)
+      × (past_rowid r ≡ staged_row (piece edition number) v)
   row_at number stands =
       let v = some_of (get ids (piece edition number)) (there (piece edition number) ∙ stands) in
       let r = h.complete (piece edition number) v.0 v.1 in
       (v.0, r.0, r.1, tells r.0 (piece edition number) v.0 r.2 ∙ same_itself texts edition, r.2)
 
   pub last_found : (last : Option ℕ) (first : Option Row) → GivesPieceNumber last first
-      → FindsFirst (passes last_terms (of_edition edition)) (by_column (col 1 2) falling (of_edition edition)) (shows number_term (of_edition edition)) rows first
+      → FindsFirst (passes last_terms (of_edition edition)) (by_column (col 1 2) falling (of_edition edition))
+      (shows number_term (of_edition edition)) rows first
       → IsLast m edition last
   last_found None first gives finds =
-      let none = subst (FindsFirst (passes last_terms (of_edition edition)) (by_column (col 1 2) falling (of_edition edition)) (shows number_term (of_edition edition)) rows) gives finds in
-      λ number stands. let r = row_at number stands in both_ways _ none (some_from (passes last_terms (of_edition edition)) rows r.1 r.2 r.3)
+      let none = subst (FindsFirst (passes last_terms (of_edition edition))
+      (by_column (col 1 2) falling (of_edition edition)) (shows number_term (of_edition edition)) rows) gives finds in
+      λ number stands. let r = row_at number stands in both_ways _ none
+      (some_from (passes last_terms (of_edition edition)) rows r.1 r.2 r.3)
   last_found (Some last) first gives finds =
-      let some = subst (FindsFirst (passes last_terms (of_edition edition)) (by_column (col 1 2) falling (of_edition edition)) (shows number_term (of_edition edition)) rows) gives.1 finds in
+      let some = subst (FindsFirst (passes last_terms (of_edition edition))
+      (by_column (col 1 2) falling (of_edition edition)) (shows number_term (of_edition edition)) rows) gives.1 finds in
       let at = h.sound some.0 some.1 in
-      let edition_is : at.0.edition ≡ edition = are_same texts at.0.edition edition (sym (tells some.0 at.0 at.1 at.3) ∙ some.2) in
-      let shown : column gives.0 0 ≡ Int at.0.number = ap (λ (r : Row). column r 0) some.3 ∙ columns_are some.0 (staged_row at.0 at.1) 1 at.3 in
+      let edition_is : at.0.edition ≡ edition = are_same texts at.0.edition edition
+      (sym (tells some.0 at.0 at.1 at.3) ∙ some.2) in
+      let shown : column gives.0 0 ≡ Int at.0.number = ap (λ (r : Row). column r 0) some.3
+      ∙ columns_are some.0 (staged_row at.0 at.1) 1 at.3 in
       let number_is : at.0.number ≡ pos last = same_int (sym shown ∙ gives.2) in
       let key_is : at.0 ≡ piece edition (pos last) = λ i. piece (edition_is i) (number_is i) in (
         sym (there (piece edition (pos last))) ∙ ap is_some (ap (get ids) (sym key_is) ∙ at.2),
         λ number stands.
             let r = row_at number stands in
-            subst (λ z. number ≤ℤ z) number_is (not_less at.0.number number (sym (ap is_lt (numbers some.0 r.1 at.0 (piece edition number) at.1 r.0 at.3 r.4)) ∙ some.4 r.1 r.2 r.3)),
+            subst (λ z. number ≤ℤ z) number_is
+            (not_less at.0.number number (sym
+            (ap is_lt (numbers some.0 r.1 at.0 (piece edition number) at.1 r.0 at.3 r.4)) ∙ some.4 r.1 r.2 r.3)),
       )
 
 -- ---- the last piece's number is that of the pieces
@@ -95,16 +111,22 @@ none_below last h i = omega (arith, ints)
 
 module _ (m : PiecesPart) (edition : Text) where
   counts : (n last : ℕ) → IsNumbered m edition n → IsLast m edition (Some last) → n ≡ last
-  counts zero last numbered is = absurd (none_below last ((numbered (pos last)).0 is.0).0 ((numbered (pos last)).0 is.0).1)
-  counts (suc n) last numbered is = both_bounds last (suc n) ((numbered (pos last)).0 is.0).1 (is.1 (pos (suc n)) ((numbered (pos (suc n))).1 (one_at_least n, ≤ℤ_refl (pos (suc n)))))
+  counts zero last numbered is = absurd
+      (none_below last ((numbered (pos last)).0 is.0).0 ((numbered (pos last)).0 is.0).1)
+  counts (suc n) last numbered is = both_bounds last (suc n) ((numbered (pos last)).0 is.0).1
+      (is.1 (pos (suc n)) ((numbered (pos (suc n))).1 (one_at_least n, ≤ℤ_refl (pos (suc n)))))
 
   counts_none : (n : ℕ) → IsNumbered m edition n → IsLast m edition None → n ≡ 0
   counts_none zero numbered is = refl
-  counts_none (suc n) numbered is = absurd (is (pos (suc n)) ((numbered (pos (suc n))).1 (one_at_least n, ≤ℤ_refl (pos (suc n)))))
+  counts_none (suc n) numbered is =
+      absurd (is (pos (suc n)) ((numbered (pos (suc n))).1 (one_at_least n, ≤ℤ_refl (pos (suc n)))))
 
-module _ (profile : Profile) (p : Package) (edition : Text) (meets : Meets profile p) (open_is : get p.editions edition ≡ Some open_state) where
+module _ (profile : Profile) (p : Package) (edition : Text) (meets : Meets profile p)
+    (open_is : get p.editions edition ≡ Some open_state) where
   pub count_is : (last : ℕ) → IsLast p.pieces edition (Some last) → piece_count p edition ≡ last
-  count_is last is = let it = meets.q15.numbered edition open_is in piece_count-is p edition it.0 it.2 ∙ counts p.pieces edition it.0 last it.2 is
+  count_is last is = let it = meets.q15.numbered edition open_is in piece_count-is p edition it.0 it.2
+      ∙ counts p.pieces edition it.0 last it.2 is
 
   pub none_is : IsLast p.pieces edition None → piece_count p edition ≡ 0
-  none_is is = let it = meets.q15.numbered edition open_is in piece_count-is p edition it.0 it.2 ∙ counts_none p.pieces edition it.0 it.2 is
+  none_is is = let it = meets.q15.numbered edition open_is in piece_count-is p edition it.0 it.2
+      ∙ counts_none p.pieces edition it.0 it.2 is

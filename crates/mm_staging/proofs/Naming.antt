@@ -31,6 +31,7 @@ pub no_piece_named : {A : Type 0} (o : Option StagedRow) (i : StagedRow) → o �
 no_piece_named o i none some = absurd (not_none some none)
 
 -- no piece stands where the package has none
-pub untold : (shelf : Shelf) (o : Option StagedRow) (entry : Option PieceRow) → Told piece_id piece_with shelf o entry → entry ≡ None → o ≡ None
+pub untold : (shelf : Shelf) (o : Option StagedRow) (entry : Option PieceRow) → Told piece_id piece_with shelf o entry
+    → entry ≡ None → o ≡ None
 untold shelf None entry told none = refl
 untold shelf (Some i) entry told none = absurd (not_none told.2 none)

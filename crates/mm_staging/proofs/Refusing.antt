@@ -15,13 +15,15 @@ module _ (p : Package) (edition : Text) where
   pub closed_51 : get p.editions edition ≡ None → Some 51 ≡ least (own_reasons p (commands.Discard edition))
   closed_51 is = sym (ap of_closed is)
 
-  pub closed_55 : get p.editions edition ≡ Some published_state → Some 55 ≡ least (own_reasons p (commands.Discard edition))
+  pub closed_55 : get p.editions edition ≡ Some published_state
+      → Some 55 ≡ least (own_reasons p (commands.Discard edition))
   closed_55 is = sym (ap of_closed is)
 
   pub closed_not : get p.editions edition ≡ Some open_state → None ≡ least (own_reasons p (commands.Discard edition))
   closed_not is = sym (ap of_closed is)
 
-  pub taken_50 : {state : Text} → get p.editions edition ≡ Some state → least (own_reasons p (commands.Edition edition)) ≡ Some 50
+  pub taken_50 : {state : Text} → get p.editions edition ≡ Some state → least (own_reasons p (commands.Edition edition))
+      ≡ Some 50
   taken_50 is = ap (λ v. least ((50, is_some v) ∷ [])) is
 
   pub free_50 : get p.editions edition ≡ None → least (own_reasons p (commands.Edition edition)) ≡ None

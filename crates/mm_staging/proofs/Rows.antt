@@ -32,10 +32,12 @@ use Rattle.mm_blobs.proofs.Moving.{then_moves_open}
 use Rattle.mm_staging.specs.Handed.{TellsBytesOf}
 
 abbrev pub piece_terms : List Term
-piece_terms = col 1 3 ∷ col 1 4 ∷ col 1 5 ∷ col 1 6 ∷ col 1 7 ∷ col 1 8 ∷ col 1 9 ∷ col 1 10 ∷ col 1 11 ∷ col 1 12 ∷ col 1 13 ∷ col 1 14 ∷ []
+piece_terms = col 1 3 ∷ col 1 4 ∷ col 1 5 ∷ col 1 6 ∷ col 1 7 ∷ col 1 8 ∷ col 1 9 ∷ col 1 10 ∷ col 1 11 ∷ col 1 12
+    ∷ col 1 13 ∷ col 1 14 ∷ []
 
 -- the columns that are asked for, of a row that holds the piece
-pub shown_piece : (k : PieceKey) (v : StagedRow) (params r : Row) → past_rowid r ≡ staged_row k v → IsPieceRow (Some v) (Some (shows piece_terms params r))
+pub shown_piece : (k : PieceKey) (v : StagedRow) (params r : Row) → past_rowid r ≡ staged_row k v
+    → IsPieceRow (Some v) (Some (shows piece_terms params r))
 shown_piece k v params r is =
     let at : (i : ℕ) → _ = λ i. columns_are r (staged_row k v) i is in (
       record {
@@ -68,56 +70,96 @@ one_piece shown a b s t bytes =
     let k7 : a.k7 ≡ b.k7 = let e : Int a.k7 ≡ Int b.k7 = sym s.k7 ∙ t.k7 in cc in
     let t1 : a.t1 ≡ b.t1 = let e : Words a.t1 ≡ Words b.t1 = sym s.t1 ∙ t.t1 in cc in
     let t2 : a.t2 ≡ b.t2 = let e : Words a.t2 ≡ Words b.t2 = sym s.t2 ∙ t.t2 in cc in
-    λ i. record { kind = kind i; name = name i; k1 = k1 i; k2 = k2 i; k3 = k3 i; k4 = k4 i; k5 = k5 i; k6 = k6 i; k7 = k7 i; t1 = t1 i; t2 = t2 i; bytes = bytes i }
+    λ i. record {
+      kind = kind i;
+      name = name i;
+      k1 = k1 i;
+      k2 = k2 i;
+      k3 = k3 i;
+      k4 = k4 i;
+      k5 = k5 i;
+      k6 = k6 i;
+      k7 = k7 i;
+      t1 = t1 i;
+      t2 = t2 i;
+      bytes = bytes i;
+    }
 
 -- a row shows a piece whatever its bytes are
 shown_with : (shown : Row) (r : PieceRow) (bytes : List ℕ) → Shows shown r → Shows shown (record r { bytes = bytes })
 shown_with shown r bytes s =
-    record { kind = s.kind; name = s.name; k1 = s.k1; k2 = s.k2; k3 = s.k3; k4 = s.k4; k5 = s.k5; k6 = s.k6; k7 = s.k7; t1 = s.t1; t2 = s.t2 }
+    record {
+      kind = s.kind;
+      name = s.name;
+      k1 = s.k1;
+      k2 = s.k2;
+      k3 = s.k3;
+      k4 = s.k4;
+      k5 = s.k5;
+      k6 = s.k6;
+      k7 = s.k7;
+      t1 = s.t1;
+      t2 = s.t2;
+    }
 
 -- the entry of the package is the piece of the row, with the bytes of the blob that the row names
-pub row_tells : (shelf : Shelf) (o : Option StagedRow) (entry : Option PieceRow) (shown : Row) (a : PieceRow) → IsPieceRow o (Some shown)
+pub row_tells : (shelf : Shelf) (o : Option StagedRow) (entry : Option PieceRow) (shown : Row) (a : PieceRow)
+    → IsPieceRow o (Some shown)
     → Told piece_id piece_with shelf o entry → Shows shown a
     → ((blob : Option ℤ) → column shown 11 ≡ maybe blob → StandsAt shelf blob a.bytes) → entry ≡ Some a
 row_tells shelf None entry shown a is told s stands = absurd is
 row_tells shelf (Some r) entry shown a is told s stands =
     let row = shown_with shown (piece_with r []) told.0 is.0 in
-    told.2 ∙ ap Some (one_piece shown (piece_with r told.0) a row s (one_bytes shelf r.blob told.0 a.bytes told.1 (stands r.blob is.1)))
+    told.2 ∙ ap Some (one_piece shown (piece_with r told.0) a row s
+    (one_bytes shelf r.blob told.0 a.bytes told.1 (stands r.blob is.1)))
 
 -- whatever its bytes are
-pub row_keeps : (shelf : Shelf) (o : Option StagedRow) (entry : Option PieceRow) (shown : Row) (a : PieceRow) → IsPieceRow o (Some shown)
-    → Told piece_id piece_with shelf o entry → Shows shown a → (bytes : List ℕ) × (entry ≡ Some (record a { bytes = bytes }))
+pub row_keeps : (shelf : Shelf) (o : Option StagedRow) (entry : Option PieceRow) (shown : Row) (a : PieceRow)
+    → IsPieceRow o (Some shown)
+    → Told piece_id piece_with shelf o entry → Shows shown a → (bytes : List ℕ)
+    × (entry ≡ Some (record a { bytes = bytes }))
 row_keeps shelf None entry shown a is told s = absurd is
 row_keeps shelf (Some r) entry shown a is told s = (
   told.0,
   told.2 ∙ ap Some
-      (one_piece shown (piece_with r told.0) (record a { bytes = told.0 }) (shown_with shown (piece_with r []) told.0 is.0) (shown_with shown a told.0 s) refl),
+      (one_piece shown (piece_with r told.0) (record a { bytes = told.0 })
+      (shown_with shown (piece_with r []) told.0 is.0) (shown_with shown a told.0 s) refl),
 )
 
-pub no_row_tells : (shelf : Shelf) (o : Option StagedRow) (entry : Option PieceRow) → IsPieceRow o None → Told piece_id piece_with shelf o entry → entry ≡ None
+pub no_row_tells : (shelf : Shelf) (o : Option StagedRow) (entry : Option PieceRow) → IsPieceRow o None
+    → Told piece_id piece_with shelf o entry → entry ≡ None
 no_row_tells shelf None entry is told = told
 no_row_tells shelf (Some r) entry is told = absurd is
 
 -- the row that was looked up by the key shows the piece of the key
-module _ (rows : List Row) (ids : FinMap piece_cmp StagedRow) (h : Holds past_rowid staged_row rows ids) (k : PieceKey) (params : Row) where
-  by_row : (first : Option Row) → FindsRow (by_piece k) (shows piece_terms params) rows first → IsPieceRow (get ids k) first
-  by_row None found = subst (λ o. IsPieceRow o None) (sym (finds_none parts.pieces rows ids h k (shows piece_terms params) found)) tt
+module _ (rows : List Row) (ids : FinMap piece_cmp StagedRow) (h : Holds past_rowid staged_row rows ids) (k : PieceKey)
+    (params : Row) where
+  by_row : (first : Option Row) → FindsRow (by_piece k) (shows piece_terms params) rows first
+      → IsPieceRow (get ids k) first
+  by_row None found = subst (λ o. IsPieceRow o None)
+      (sym (finds_none parts.pieces rows ids h k (shows piece_terms params) found)) tt
   by_row (Some row) found =
       let at = finds_some parts.pieces rows ids h k (shows piece_terms params) row found in
-      subst (λ o. IsPieceRow o (Some row)) (sym at.1) (subst (λ r. IsPieceRow (Some at.0) (Some r)) (sym at.4) (shown_piece k at.0 params at.2 at.3))
+      subst (λ o. IsPieceRow o (Some row)) (sym at.1)
+      (subst (λ r. IsPieceRow (Some at.0) (Some r)) (sym at.4) (shown_piece k at.0 params at.2 at.3))
 
-  pub found_row : (x first : Option Row) → x ≡ first → FindsRow (by_piece k) (shows piece_terms params) rows first → IsPieceRow (get ids k) x
+  pub found_row : (x first : Option Row) → x ≡ first → FindsRow (by_piece k) (shows piece_terms params) rows first
+      → IsPieceRow (get ids k) x
   found_row x first gives found = subst (IsPieceRow (get ids k)) (sym gives) (by_row first found)
 
 -- whether a row is of another edition
-pub of_other : (edition : Text) (r : Row) (k : PieceKey) (v : StagedRow) → past_rowid r ≡ staged_row k v → not (by_text edition r) ≡ is_other edition k.edition
-of_other edition r k v is = ap not (and_true _ ∙ ap (λ x. equal Binary x (Words edition)) (columns_are r (staged_row k v) 0 is) ∙ equal_text k.edition edition)
+pub of_other : (edition : Text) (r : Row) (k : PieceKey) (v : StagedRow) → past_rowid r ≡ staged_row k v
+    → not (by_text edition r) ≡ is_other edition k.edition
+of_other edition r k v is = ap not
+    (and_true _ ∙ ap (λ x. equal Binary x (Words edition)) (columns_are r (staged_row k v) 0 is)
+    ∙ equal_text k.edition edition)
 
 -- a look at a row, and then at the bytes of the blob that it names
 pub finds_bytes : {S T U : Type 0} {g : Ghosts S} {a b c : Transaction S} {Says : View → T → Type 0} {x : T}
     {row : Row} {bytes_of : U → List ℕ}
     {r : Result U Fault} → handed.Finds g a b Says (Ok x) → TellsBytesOf g b c row bytes_of r
-    → handed.Finds g a c (λ v it. Says v x × ((blob : Option ℤ) → column row 11 ≡ maybe blob → StandsAt v.kept.shelf blob (bytes_of it))) r
+    → handed.Finds g a c (λ v it. Says v x
+    × ((blob : Option ℤ) → column row 11 ≡ maybe blob → StandsAt v.kept.shelf blob (bytes_of it))) r
 finds_bytes {g = g} {c = c} {Says = Says} {x = x} {row = row} {bytes_of = bytes_of} {r = r} h k = record {
   same = k.same ∙ h.same;
   found = λ profile spare.

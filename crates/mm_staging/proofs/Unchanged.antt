@@ -12,8 +12,11 @@ use Rattle.mm_definitions.specs.declared.commands.Command.{Command}
 use Rattle.mm_store.specs.Handed.{Goes, Applies}
 use Rattle.mm_store.proofs.Going.{goes_given, goes_as}
 
-pub applies_unchanged : {S T : Type 0} {g : Ghosts S} {a b : Transaction S} {c : Command} {Says : Profile → Package → T → Type 0} {x : T} → Goes g a b (λ profile p. ⊤) (λ p it. p) Says (Ok x)
-    → ((moment : ℕ) (profile : Profile) (p : Package) → Meets profile p → Says profile p x → (refusal p c ≡ None) × (step p c moment ≡ p)) → Applies g a b c (Ok Done)
+pub applies_unchanged : {S T : Type 0} {g : Ghosts S} {a b : Transaction S} {c : Command}
+    {Says : Profile → Package → T → Type 0} {x : T} → Goes g a b (λ profile p. ⊤) (λ p it. p) Says (Ok x)
+    → ((moment : ℕ) (profile : Profile) (p : Package) → Meets profile p → Says profile p x → (refusal p c ≡ None)
+    × (step p c moment ≡ p)) → Applies g a b c (Ok Done)
 applies_unchanged h finds = record {
-  goes = λ moment. goes_as (goes_given h (λ profile p meets. tt)) (λ profile p meets says. let f = finds moment profile p meets says in (f.1, f.0));
+  goes = λ moment. goes_as (goes_given h (λ profile p meets. tt))
+      (λ profile p meets says. let f = finds moment profile p meets says in (f.1, f.0));
 }

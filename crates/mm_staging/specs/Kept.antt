@@ -60,7 +60,8 @@ written_row w = record {
 
 -- the numbers are those that are to be written
 abbrev pub AreNumbers : Numbers → Written → Type 0
-AreNumbers n w = (n.k1 ≡ w.k1) × (n.k2 ≡ w.k2) × (n.k3 ≡ w.k3) × (n.k4 ≡ w.k4) × (n.k5 ≡ w.k5) × (n.k6 ≡ w.k6) × (n.k7 ≡ w.k7)
+AreNumbers n w = (n.k1 ≡ w.k1) × (n.k2 ≡ w.k2) × (n.k3 ≡ w.k3) × (n.k4 ≡ w.k4) × (n.k5 ≡ w.k5) × (n.k6 ≡ w.k6)
+    × (n.k7 ≡ w.k7)
 
 -- the columns from the third on hold the numbers
 pub record HasNumbers (shown : Row) (n : Numbers) : Type 0 where
@@ -86,7 +87,8 @@ pub record Shows (shown : Row) (r : PieceRow) : Type 0 where
   pub t1 : column shown 9 ≡ Words r.t1
   pub t2 : column shown 10 ≡ Words r.t2
 
--- a row that was asked for by its key shows the piece and the blob that it names, and there is none where there is no piece
+-- a row that was asked for by its key shows the piece and the blob that it names, and there is none where there is no
+-- piece
 abbrev pub IsPieceRow : Option StagedRow → Option Row → Type 0
 IsPieceRow None None = ⊤
 IsPieceRow (Some r) (Some shown) = Shows shown (piece_with r []) × (column shown 11 ≡ maybe r.blob)
@@ -94,7 +96,20 @@ IsPieceRow _ _ = ⊥
 
 -- what is written of a piece, with the blob of its bytes
 abbrev pub staged_of : Written → Option ℤ → StagedRow
-staged_of w blob = record { kind = w.kind.now; name = w.name.now; k1 = w.k1; k2 = w.k2; k3 = w.k3; k4 = w.k4; k5 = w.k5; k6 = w.k6; k7 = w.k7; t1 = w.t1.now; t2 = w.t2.now; blob = blob }
+staged_of w blob = record {
+  kind = w.kind.now;
+  name = w.name.now;
+  k1 = w.k1;
+  k2 = w.k2;
+  k3 = w.k3;
+  k4 = w.k4;
+  k5 = w.k5;
+  k6 = w.k6;
+  k7 = w.k7;
+  t1 = w.t1.now;
+  t2 = w.t2.now;
+  blob = blob;
+}
 
 -- the blob of a piece that is named need not be spared any more
 abbrev pub spare_named : Option ℤ → Spare → Spare

@@ -21,4 +21,5 @@ with_bytes bytes (outlines.Matrix table zoom matrix) = pieces.Matrix table zoom 
 
 -- the entry is the row of the piece that was told, with the bytes that it has; where none was told there is no entry
 abbrev pub IsOutlined : Option PieceRow → Option Outline → Type 0
-IsOutlined entry found = (bytes : List ℕ) × (entry ≡ option_map (λ (it : Outline). piece_row (with_bytes bytes it)) found)
+IsOutlined entry found = (bytes : List ℕ)
+    × (entry ≡ option_map (λ (it : Outline). piece_row (with_bytes bytes it)) found)

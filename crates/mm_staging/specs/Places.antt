@@ -15,8 +15,10 @@ use Rattle.mm_staging.specs.declared.staging.Place.TheVariants.{Equal, Next, Ref
 
 -- an equal piece stands there, or the number is free and the next, or the staging is refused
 abbrev pub IsPlace : Package → Text → ℤ → Piece → Place → Type 0
-IsPlace p edition number q Equal = (least (own_reasons p (commands.Stage edition number q)) ≡ None) × (get p.pieces (piece edition number) ≡ Some (piece_row q))
-IsPlace p edition number q Next = (least (own_reasons p (commands.Stage edition number q)) ≡ None) × (get p.pieces (piece edition number) ≡ None)
+IsPlace p edition number q Equal = (least (own_reasons p (commands.Stage edition number q)) ≡ None)
+    × (get p.pieces (piece edition number) ≡ Some (piece_row q))
+IsPlace p edition number q Next = (least (own_reasons p (commands.Stage edition number q)) ≡ None)
+    × (get p.pieces (piece edition number) ≡ None)
 IsPlace p edition number q (Refused why) = least (own_reasons p (commands.Stage edition number q)) ≡ Some why
 
 -- a piece is staged where this row stands
@@ -42,4 +44,5 @@ IsPlaceBehind p edition number Equal = ⊥
 IsPlaceBehind p edition number Next = IsNextNumber p edition number × (number ≤ℤ pos MostPieces)
 IsPlaceBehind p edition number (Refused why) =
     ((why ≡ TOO_MANY_PIECES) × IsNextNumber p edition number × (pos MostPieces <ℤ number))
-    ⊎ ((why ≡ NOT_THE_NEXT_PIECE) × (pos 1 <ℤ number) × (contains_key p.pieces (piece edition (number -ℤ pos 1)) ≡ false))
+    ⊎ ((why ≡ NOT_THE_NEXT_PIECE) × (pos 1 <ℤ number)
+    × (contains_key p.pieces (piece edition (number -ℤ pos 1)) ≡ false))

@@ -9,7 +9,8 @@ use Rattle.mm_definitions.specs.Parts.{Stands}
 -- the edition has no piece, or this is the highest number of one
 abbrev pub IsLast : PiecesPart → Text → Option ℕ → Type 0
 IsLast pieces edition None = (number : ℤ) → ¬ (Stands pieces (piece edition number))
-IsLast pieces edition (Some last) = Stands pieces (piece edition (pos last)) × ((number : ℤ) → Stands pieces (piece edition number) → number ≤ℤ pos last)
+IsLast pieces edition (Some last) = Stands pieces (piece edition (pos last))
+    × ((number : ℤ) → Stands pieces (piece edition number) → number ≤ℤ pos last)
 
 -- the row has this number in its first column
 abbrev pub GivesPieceNumber : Option ℕ → Option Row → Type 0

@@ -18,13 +18,23 @@ store_fault fault (inl is) = inl (λ i. record { 0 = is i })
 store_fault fault (inr is) = inr (λ i. record { 0 = is i })
 
 pub told_fault : (e : Error) (fault : Fault) → fault ≡ told_as e → IsStoreFault fault
-told_fault e fault is = elim (wants_memory e) as (λ b. fault ≡ cond b memory store → IsStoreFault fault) [ true ↦ λ same. inl same | false ↦ λ same. inr same ] is
+told_fault e fault is = elim (wants_memory e) as (λ b. fault ≡ cond b memory store → IsStoreFault fault)
+    [ true ↦ λ same. inl same | false ↦ λ same. inr same ] is
 
 module _ (old new : State) (sql : List ℕ) (params : Row) where
-  pub some_asked : (first : Option Row) (found : Bool) → found ≡ is_some first → IsAsked old new sql params (λ (it : Option Row) first. it ≡ first) (Ok first)
+  pub some_asked : (first : Option Row) (found : Bool) → found ≡ is_some first
+      → IsAsked old new sql params (λ (it : Option Row) first. it ≡ first) (Ok first)
       → IsAsked old new sql params (λ (it : Bool) first. it ≡ is_some first) (Ok found)
-  some_asked first found is asked = record { survives = asked.survives; on = asked.on; gives = λ clean. let g = asked.gives clean in (g.0, g.1, is ∙ ap is_some g.2); faults = tt }
+  some_asked first found is asked =
+      record {
+        survives = asked.survives;
+        on = asked.on;
+        gives = λ clean. let g =
+            asked.gives clean in (g.0, g.1, is ∙ ap is_some g.2);
+        faults = tt;
+      }
 
   pub fault_asked : (fault : Fault) → IsAsked old new sql params (λ (it : Option Row) first. it ≡ first) (Err fault)
       → {U : Type 0} (Gives : U → Option Row → Type 0) → IsAsked old new sql params Gives (Err fault)
-  fault_asked fault asked Gives = record { survives = asked.survives; on = asked.on; gives = λ clean. tt; faults = asked.faults }
+  fault_asked fault asked Gives =
+      record { survives = asked.survives; on = asked.on; gives = λ clean. tt; faults = asked.faults }

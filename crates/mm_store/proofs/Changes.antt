@@ -11,29 +11,40 @@ use Rattle.mm_store.specs.Tables.{gpkg_contents, mm_tiles, mm_rows, mm_media, mm
 use Rattle.mm_definitions.specs.Keys.{Text, TileKey, Item}
 use Rattle.mm_definitions.specs.Package.{Contents, AttributeRow}
 use Rattle.mm_definitions.specs.Effects.{changed_at}
-use Rattle.mm_store.specs.Rows.{past_rowid, maybe, contents_row, tile_row, attribute_row, MediumRow, medium_row, edition_row}
+use Rattle.mm_store.specs.Rows.{past_rowid, maybe, contents_row, tile_row, attribute_row, MediumRow, medium_row}
+use Rattle.mm_store.specs.Rows.{edition_row}
 
 abbrev pub tile_sets : List Term
 tile_sets = col 1 1 ∷ col 1 2 ∷ col 1 3 ∷ col 1 4 ∷ col 0 4 ∷ []
 
 pub tile_changed : (k : TileKey) (v w : ℤ) (r : Row) → past_rowid r ≡ tile_row k v
-    → past_rowid (updated mm_tiles tile_sets (Words k.table ∷ Int k.zoom ∷ Int k.column ∷ Int k.row ∷ Int w ∷ []) r) ≡ tile_row k w
+    → past_rowid (updated mm_tiles tile_sets (Words k.table ∷ Int k.zoom ∷ Int k.column ∷ Int k.row ∷ Int w ∷ []) r)
+    ≡ tile_row k w
 tile_changed k v w r is =
-    rw (columns_are r (tile_row k v) 0 is, columns_are r (tile_row k v) 1 is, columns_are r (tile_row k v) 2 is, columns_are r (tile_row k v) 3 is) (cast_all_is mm_tiles.columns (tile_row k w) refl)
+    rw (
+      columns_are r (tile_row k v) 0 is,
+      columns_are r (tile_row k v) 1 is,
+      columns_are r (tile_row k v) 2 is,
+      columns_are r (tile_row k v) 3 is,
+    ) (cast_all_is mm_tiles.columns (tile_row k w) refl)
 
 abbrev pub row_sets : List Term
 row_sets = col 1 1 ∷ col 1 2 ∷ col 0 2 ∷ col 0 3 ∷ col 0 4 ∷ []
 
 pub row_changed : (k : Item) (v w : AttributeRow) (r : Row) → past_rowid r ≡ attribute_row k v
-    → past_rowid (updated mm_rows row_sets (Words k.table ∷ Int k.id ∷ Words w.title ∷ Words w.note ∷ Int w.amount ∷ []) r) ≡ attribute_row k w
-row_changed k v w r is = rw (columns_are r (attribute_row k v) 0 is, columns_are r (attribute_row k v) 1 is) (cast_all_is mm_rows.columns (attribute_row k w) refl)
+    → past_rowid (updated mm_rows row_sets (Words k.table ∷ Int k.id ∷ Words w.title ∷ Words w.note ∷ Int w.amount ∷ [])
+    r) ≡ attribute_row k w
+row_changed k v w r is = rw (columns_are r (attribute_row k v) 0 is, columns_are r (attribute_row k v) 1 is)
+    (cast_all_is mm_rows.columns (attribute_row k w) refl)
 
 abbrev pub medium_sets : List Term
 medium_sets = col 1 1 ∷ col 1 2 ∷ col 0 2 ∷ col 0 3 ∷ []
 
 pub medium_changed : (k : Item) (v w : MediumRow) (r : Row) → past_rowid r ≡ medium_row k v
-    → past_rowid (updated mm_media medium_sets (Words k.table ∷ Int k.id ∷ Int w.blob ∷ Words w.content_type ∷ []) r) ≡ medium_row k w
-medium_changed k v w r is = rw (columns_are r (medium_row k v) 0 is, columns_are r (medium_row k v) 1 is) (cast_all_is mm_media.columns (medium_row k w) refl)
+    → past_rowid (updated mm_media medium_sets (Words k.table ∷ Int k.id ∷ Int w.blob ∷ Words w.content_type ∷ []) r)
+    ≡ medium_row k w
+medium_changed k v w r is = rw (columns_are r (medium_row k v) 0 is, columns_are r (medium_row k v) 1 is)
+    (cast_all_is mm_media.columns (medium_row k w) refl)
 
 abbrev pub closed_sets : List Term
 closed_sets = col 1 1 ∷ lit (Words (codes "published")) ∷ []
@@ -52,10 +63,12 @@ abbrev pub contents_sets : List Term
 contents_sets = col 1 1 ∷ col 1 2 ∷ col 1 3 ∷ col 1 4 ∷ col 0 1 ∷ col 1 6 ∷ col 1 7 ∷ col 1 8 ∷ col 1 9 ∷ col 1 10 ∷ []
 
 pub contents_typed : (table : Text) (c : Contents) → are_of gpkg_contents.columns (contents_row table c) ≡ true
-contents_typed table c = rw (is_maybe c.min_x, is_maybe c.min_y, is_maybe c.max_x, is_maybe c.max_y, is_maybe c.system) refl
+contents_typed table c = rw (is_maybe c.min_x, is_maybe c.min_y, is_maybe c.max_x, is_maybe c.max_y, is_maybe c.system)
+    refl
 
 pub contents_changed : (table at : Text) (c : Contents) (r : Row) → past_rowid r ≡ contents_row table c
-    → past_rowid (updated gpkg_contents contents_sets (Words table ∷ Words at ∷ []) r) ≡ contents_row table (changed_at at c)
+    → past_rowid (updated gpkg_contents contents_sets (Words table ∷ Words at ∷ []) r) ≡ contents_row table
+    (changed_at at c)
 contents_changed table at c r is =
     rw (
       columns_are r (contents_row table c) 0 is,

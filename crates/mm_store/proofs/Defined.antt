@@ -5,7 +5,8 @@ use Rattle.sqlite.specs.Compile.{table_defined_by}
 use Rattle.mm_store.specs.Tables as tables
 use Rattle.mm_store.specs.Creates as texts
 
-pub gpkg_spatial_ref_sys : table_defined_by texts.create_gpkg_spatial_ref_sys ≡ Ok (record tables.gpkg_spatial_ref_sys { tree = 0 })
+pub gpkg_spatial_ref_sys : table_defined_by texts.create_gpkg_spatial_ref_sys
+    ≡ Ok (record tables.gpkg_spatial_ref_sys { tree = 0 })
 unfolding everything
 gpkg_spatial_ref_sys = refl
 
@@ -13,7 +14,8 @@ pub gpkg_contents : table_defined_by texts.create_gpkg_contents ≡ Ok (record t
 unfolding everything
 gpkg_contents = refl
 
-pub gpkg_tile_matrix_set : table_defined_by texts.create_gpkg_tile_matrix_set ≡ Ok (record tables.gpkg_tile_matrix_set { tree = 0 })
+pub gpkg_tile_matrix_set : table_defined_by texts.create_gpkg_tile_matrix_set
+    ≡ Ok (record tables.gpkg_tile_matrix_set { tree = 0 })
 unfolding everything
 gpkg_tile_matrix_set = refl
 
@@ -25,7 +27,8 @@ pub gpkg_extensions : table_defined_by texts.create_gpkg_extensions ≡ Ok (reco
 unfolding everything
 gpkg_extensions = refl
 
-pub gpkgext_relations : table_defined_by texts.create_gpkgext_relations ≡ Ok (record tables.gpkgext_relations { tree = 0 })
+pub gpkgext_relations : table_defined_by texts.create_gpkgext_relations
+    ≡ Ok (record tables.gpkgext_relations { tree = 0 })
 unfolding everything
 gpkgext_relations = refl
 

@@ -17,7 +17,12 @@ childless_gpkg_extensions = refl
 
 pub delete_related_row : IsDelete schema text.delete_related_row 4 gpkg_extensions (equals 1 0 ∷ is_absent 2 ∷ reads 3 (codes "gpkg_related_tables") ∷ reads 4 (codes "OGC 18-000") ∷ reads 5 (codes "read-write") ∷ [])
 unfolding understood everything
-delete_related_row = record { compiled = refl; plain = (refl, refl); placed = refl; childless = childless_gpkg_extensions }
+delete_related_row = record {
+  compiled = refl;
+  plain = (refl, refl);
+  placed = refl;
+  childless = childless_gpkg_extensions;
+}
 
 pub delete_zoom_row : IsDelete schema text.delete_zoom_row 4 gpkg_extensions (equals 1 0 ∷ reads 2 (codes "tile_data") ∷ reads 3 (codes "gpkg_zoom_other") ∷ reads 4 (codes "OGC 12-128r17") ∷ reads 5 (codes "read-write") ∷ [])
 unfolding understood everything

@@ -29,13 +29,16 @@ use Rattle.mm_definitions.proofs.Listed.{along_entries, none_along}
 use Rattle.mm_store.specs.Rows.{past_rowid, past_id, contents_row, relation_row}
 use Rattle.mm_store.proofs.Keys.{columns_after}
 
-module _ {K V : Type 0} {R : K → K → Ordering} (o : IsKeyOrder R) (part : Row → Row) (row_of : K → V → Row) (rows : List Row) (m : FinMap R V) (h : Holds part row_of rows m) where
-  no_entries : (uses : K → V → Bool) → ((k : K) (v : V) → get m k ≡ Some v → uses k v ≡ false) → some_entry uses m ≡ false
+module _ {K V : Type 0} {R : K → K → Ordering} (o : IsKeyOrder R) (part : Row → Row) (row_of : K → V → Row)
+    (rows : List Row) (m : FinMap R V) (h : Holds part row_of rows m) where
+  no_entries : (uses : K → V → Bool) → ((k : K) (v : V) → get m k ≡ Some v → uses k v ≡ false)
+      → some_entry uses m ≡ false
   unfolding some_entry
   no_entries uses none = none_along (λ e. uses e.0 e.1) (entries m) (along_entries o (λ k v. uses k v ≡ false) m none)
 
   -- whether a row passes is whether some entry does
-  pub some_told : (test : Row → Bool) (uses : K → V → Bool) → ((r : Row) (l : K) (v : V) → part r ≡ row_of l v → test r ≡ uses l v)
+  pub some_told : (test : Row → Bool) (uses : K → V → Bool)
+      → ((r : Row) (l : K) (v : V) → part r ≡ row_of l v → test r ≡ uses l v)
       → list_any test rows ≡ some_entry uses m
   some_told test uses tells = go (list_any test rows) refl
     where
@@ -43,18 +46,23 @@ module _ {K V : Type 0} {R : K → K → Ordering} (o : IsKeyOrder R) (part : Ro
       go true is =
           let r = some_has test rows is in
           let it = h.sound r.0 r.1 in
-          sym (true_from_ne_false _ (λ none. both_ways _ (no_entry o uses m none it.0 it.1 it.2) (sym (tells r.0 it.0 it.1 it.3) ∙ r.2)))
+          sym (true_from_ne_false _ (λ none. both_ways _ (no_entry o uses m none it.0 it.1 it.2)
+          (sym (tells r.0 it.0 it.1 it.3) ∙ r.2)))
       go false is = sym (no_entries uses (λ k v has.
           let r = h.complete k v has in
           sym (tells r.0 k v r.2) ∙ false_from_ne_true _ (λ hit. both_ways _ is (some_from test rows r.0 r.1 hit))))
 
 -- a contents row has the identifier
-pub identified_is : (p : Package) (rows : List Row) → Holds past_rowid contents_row rows p.contents → (identifier : Text)
+pub identified_is : (p : Package) (rows : List Row) → Holds past_rowid contents_row rows p.contents
+    → (identifier : Text)
     → list_any (has_key (3 ∷ []) (Words identifier ∷ [])) rows ≡ is_identified p identifier
-identified_is p rows h identifier = some_told texts past_rowid contents_row rows p.contents h (has_key (3 ∷ []) (Words identifier ∷ [])) (λ _ c. same_text c.identifier identifier) (λ r l v is.
-    ap (λ x. equal Binary x (Words identifier) && true) (columns_are r (contents_row l v) 2 is) ∙ ap (λ b. b && true) (equal_text v.identifier identifier) ∙ and_true _)
+identified_is p rows h identifier = some_told texts past_rowid contents_row rows p.contents h
+    (has_key (3 ∷ []) (Words identifier ∷ [])) (λ _ c. same_text c.identifier identifier) (λ r l v is.
+    ap (λ x. equal Binary x (Words identifier) && true) (columns_are r (contents_row l v) 2 is)
+    ∙ ap (λ b. b && true) (equal_text v.identifier identifier) ∙ and_true _)
 
-either_holds : (a b : Bool) → is_true (from_truth (or3 (truth (from_truth (Some a))) (truth (from_truth (Some b))))) ≡ (a || b)
+either_holds : (a b : Bool) → is_true (from_truth (or3 (truth (from_truth (Some a))) (truth (from_truth (Some b)))))
+    ≡ (a || b)
 either_holds true true = refl
 either_holds true false = refl
 either_holds false true = refl
@@ -71,7 +79,9 @@ either_text a b c = either_holds _ _ ∙ ap₂ (λ x y. is_eq x || is_eq y) (val
 -- a relation has the table as an end
 pub uses : (p : Package) (table : Text) (rows : List Row) → Holds past_id relation_row rows p.relations
     → list_any (λ r. either_is (column r 2) (column r 4) (Words table) && true) rows ≡ is_used p table
-uses p table rows h = some_told texts past_id relation_row rows p.relations h (λ r. either_is (column r 2) (column r 4) (Words table) && true) (λ _ r. same_text r.base table || same_text r.related table) (λ r l v is.
+uses p table rows h = some_told texts past_id relation_row rows p.relations h
+    (λ r. either_is (column r 2) (column r 4) (Words table) && true)
+    (λ _ r. same_text r.base table || same_text r.related table) (λ r l v is.
     ap (λ x. either_is x (column r 4) (Words table) && true) (columns_after r (relation_row l v) 0 is)
     ∙ ap (λ x. either_is (Words v.base) x (Words table) && true) (columns_after r (relation_row l v) 2 is)
     ∙ ap (λ b. b && true) (either_text v.base v.related table)

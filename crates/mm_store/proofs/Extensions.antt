@@ -1,5 +1,6 @@
 -- Extension rows, which a package counts: one more, and all of one extension less.
-use Rattle.std.proofs.Common.{◌≡◌, inl, inr, ℕ, zero, suc, ℤ, Bool, true, false, not, cond, ◌||◌, ◌&&◌, List, [], ◌∷◌, filter, length, codes, Option, Some, None, refl, sym, ap, subst, ◌∙◌}
+use Rattle.std.proofs.Common.{◌≡◌, inl, inr, ℕ, zero, suc, ℤ, Bool, true, false, not, cond, ◌||◌, ◌&&◌, List, [], ◌∷◌}
+use Rattle.std.proofs.Common.{filter, length, codes, Option, Some, None, refl, sym, ap, subst, ◌∙◌}
 use Rattle.std.specs.declared.cmp.Ordering.{Ordering}
 use Rattle.std.specs.declared.cmp.Ordering.TheVariants.{Less, Equal, Greater}
 use Rattle.std.specs.Ordering.{is_eq, eq_by_cmp, match_ordering, ordering_then}
@@ -26,9 +27,11 @@ use Rattle.sql_forms.proofs.Keys.{equal_text, columns_are}
 use Rattle.sql_forms.proofs.Lists.{filter_after, filter_out, not_not, and_true}
 use Rattle.mm_definitions.specs.Keys.{Text, text_cmp, Extension, extension_cmp}
 use Rattle.mm_definitions.specs.Package.{zoom_extension, mapping_extension}
-use Rattle.mm_definitions.proofs.Parts.{SameKey, same_key, same_itself, apart, at_put, beside_put, at_remove, beside_remove}
+use Rattle.mm_definitions.proofs.Parts.{SameKey, same_key, same_itself, apart, at_put, beside_put, at_remove}
+use Rattle.mm_definitions.proofs.Parts.{beside_remove}
 use Rattle.mm_definitions.proofs.KeyLaws.{extension_keys}
-use Rattle.mm_store.specs.Rows.{past_rowid, maybe_words, maybe_of, extension_row, extension_of, is_extension, as_count, Counts}
+use Rattle.mm_store.specs.Rows.{past_rowid, maybe_words, maybe_of, extension_row, extension_of, is_extension, as_count}
+use Rattle.mm_store.specs.Rows.{Counts}
 use Rattle.mm_store.proofs.Keys.{is_eq_then}
 
 -- ---- one more extension row
@@ -40,12 +43,15 @@ longer true false e n xs ys h = ap suc h
 longer false true e n xs ys h = h
 longer false false e n xs ys h = h
 
-count_put : (p : Row → Bool) (new : Row) (rows : List Row) → is_taken rows new ≡ false → length (filter p (put_row new rows)) ≡ length (filter p (new ∷ rows))
+count_put : (p : Row → Bool) (new : Row) (rows : List Row) → is_taken rows new ≡ false
+    → length (filter p (put_row new rows)) ≡ length (filter p (new ∷ rows))
 count_put p new [] h = refl
 count_put p new (e ∷ es) h = go (value_cmp (rowid e) (rowid new)) h (count_put p new es)
   where
-    go : (o : Ordering) → (is_eq o || is_taken es new) ≡ false → (is_taken es new ≡ false → length (filter p (put_row new es)) ≡ length (filter p (new ∷ es)))
-        → length (filter p (match_ordering o (e ∷ put_row new es) (new ∷ es) (new ∷ e ∷ es))) ≡ length (filter p (new ∷ e ∷ es))
+    go : (o : Ordering) → (is_eq o || is_taken es new) ≡ false
+        → (is_taken es new ≡ false → length (filter p (put_row new es)) ≡ length (filter p (new ∷ es)))
+        → length (filter p (match_ordering o (e ∷ put_row new es) (new ∷ es) (new ∷ e ∷ es)))
+        ≡ length (filter p (new ∷ e ∷ es))
     go Less h more = longer (p e) (p new) e new (filter p (put_row new es)) (filter p es) (more h)
     go Equal h more = absurd (let f : true ≡ false = h in cc)
     go Greater h more = refl
@@ -58,12 +64,19 @@ no_count : (n : ℕ) → None ≡ as_count n → n ≡ 0
 no_count zero h = refl
 no_count (suc n) h = absurd (let f : ◌≡◌ {A = Option ℕ} None (Some (suc n)) = h in cc)
 
-module _ (rows : List Row) (m : FinMap extension_cmp ℕ) (h : Counts rows m) (z : Extension) (free : get m z ≡ None) (id : ℤ) (fresh : is_taken rows (Int id ∷ extension_row z) ≡ false) where
+module _ (rows : List Row) (m : FinMap extension_cmp ℕ) (h : Counts rows m) (z : Extension) (free : get m z ≡ None)
+    (id : ℤ) (fresh : is_taken rows (Int id ∷ extension_row z) ≡ false) where
   abbrev new : Row
   new = Int id ∷ extension_row z
 
   back : extension_of new ≡ z
-  back i = record { table = maybe_back z.table i; column = maybe_back z.column i; name = z.name; definition = z.definition; scope = z.scope }
+  back i = record {
+    table = maybe_back z.table i;
+    column = maybe_back z.column i;
+    name = z.name;
+    definition = z.definition;
+    scope = z.scope;
+  }
 
   pub counts_more : Counts (put_row new rows) (insert m z 1)
   counts_more = record {
@@ -74,16 +87,23 @@ module _ (rows : List Row) (m : FinMap extension_cmp ℕ) (h : Counts rows m) (z
     counted = λ e. at e (same_key extension_keys e z);
   }
     where
-      at : (e : Extension) → SameKey extension_cmp e z → get (insert m z 1) e ≡ as_count (length (filter (is_extension e) (put_row new rows)))
+      at : (e : Extension) → SameKey extension_cmp e z
+          → get (insert m z 1) e ≡ as_count (length (filter (is_extension e) (put_row new rows)))
       at e (inl same) =
-          let hit : is_extension e new ≡ true = ap (λ x. eq_by_cmp extension_cmp x e) (back ∙ sym same.0) ∙ same_itself extension_keys e in
-          let none : length (filter (is_extension e) rows) ≡ 0 = no_count _ (sym (ap (get m) same.0 ∙ free) ∙ h.counted e) in
+          let hit : is_extension e new ≡ true = ap (λ x. eq_by_cmp extension_cmp x e) (back ∙ sym same.0)
+          ∙ same_itself extension_keys e in
+          let none : length (filter (is_extension e) rows) ≡ 0 =
+          no_count _ (sym (ap (get m) same.0 ∙ free) ∙ h.counted e) in
           ap (get (insert m z 1)) same.0 ∙ at_put extension_keys m z 1
-          ∙ sym (ap as_count (count_put (is_extension e) new rows fresh ∙ ap (λ b. length (cond b (new ∷ filter (is_extension e) rows) (filter (is_extension e) rows))) hit ∙ ap suc none))
+          ∙ sym (ap as_count (count_put (is_extension e) new rows fresh
+          ∙ ap (λ b. length (cond b (new ∷ filter (is_extension e) rows) (filter (is_extension e) rows))) hit
+          ∙ ap suc none))
       at e (inr other) =
-          let miss : is_extension e new ≡ false = ap (λ x. eq_by_cmp extension_cmp x e) back ∙ apart extension_keys z e (λ s. other.0 (sym s)) in
+          let miss : is_extension e new ≡ false = ap (λ x. eq_by_cmp extension_cmp x e) back
+          ∙ apart extension_keys z e (λ s. other.0 (sym s)) in
           beside_put extension_keys m z 1 e other.0 ∙ h.counted e
-          ∙ sym (ap as_count (count_put (is_extension e) new rows fresh ∙ ap (λ b. length (cond b (new ∷ filter (is_extension e) rows) (filter (is_extension e) rows))) miss))
+          ∙ sym (ap as_count (count_put (is_extension e) new rows fresh
+          ∙ ap (λ b. length (cond b (new ∷ filter (is_extension e) rows) (filter (is_extension e) rows))) miss))
 
 -- a DELETE of all rows of one extension
 pub uncounts : (rows : List Row) (m : FinMap extension_cmp ℕ) → Counts rows m → (z : Extension) (test : Row → Bool)
@@ -94,20 +114,25 @@ uncounts rows m h z test decides = record {
   counted = λ e. at e (same_key extension_keys e z);
 }
   where
-    at : (e : Extension) → SameKey extension_cmp e z → get (remove m z) e ≡ as_count (length (filter (is_extension e) (without test rows)))
+    at : (e : Extension) → SameKey extension_cmp e z
+        → get (remove m z) e ≡ as_count (length (filter (is_extension e) (without test rows)))
     at e (inl same) =
         ap (get (remove m z)) same.0 ∙ at_remove extension_keys m z
-        ∙ sym (ap (λ xs. as_count (length xs)) (filter_out (is_extension e) (λ r. not (test r)) rows (λ r there. ap not (decides r (h.sound r there) ∙ ap (λ x. is_extension x r) (sym same.0)))))
+        ∙ sym (ap (λ xs. as_count (length xs))
+        (filter_out (is_extension e) (λ r. not (test r)) rows
+        (λ r there. ap not (decides r (h.sound r there) ∙ ap (λ x. is_extension x r) (sym same.0)))))
     at e (inr apart) =
         beside_remove extension_keys m z e apart.0 ∙ h.counted e
         ∙ sym (ap (λ xs. as_count (length xs)) (filter_after (is_extension e) (λ r. not (test r)) rows (λ r there gone.
         false_from_ne_true _ (λ is.
         let hit : is_extension z r ≡ true = sym (decides r (h.sound r there)) ∙ sym (not_not (test r)) ∙ ap not gone in
-        apart.0 (sym (extension_keys.exact (extension_of r) e ((Equal-is _).0 is)) ∙ extension_keys.exact (extension_of r) z ((Equal-is _).0 hit))))))
+        apart.0 (sym (extension_keys.exact (extension_of r) e ((Equal-is _).0 is))
+        ∙ extension_keys.exact (extension_of r) z ((Equal-is _).0 hit))))))
 
 -- ---- the WHERE of one extension
 
-equal_maybe : (o : Option Text) (t : Text) → equal Binary (maybe_words o) (Words t) ≡ is_eq (option_cmp text_cmp o (Some t))
+equal_maybe : (o : Option Text) (t : Text)
+    → equal Binary (maybe_words o) (Words t) ≡ is_eq (option_cmp text_cmp o (Some t))
 unfolding binary
 equal_maybe None t = refl
 equal_maybe (Some s) t = equal_text s t
@@ -117,9 +142,17 @@ zoom_terms = equals 1 0 ∷ reads 2 (codes "tile_data") ∷ reads 3 (codes "gpkg
 
 -- a WHERE of all five columns
 five : (a b c d e : Ordering)
-    → (is_eq a && (is_eq b && (is_eq c && (is_eq d && (is_eq e && true))))) ≡ is_eq (ordering_then a (ordering_then b (ordering_then c (ordering_then d e))))
+    → (is_eq a && (is_eq b && (is_eq c && (is_eq d && (is_eq e && true)))))
+    ≡ is_eq (ordering_then a (ordering_then b (ordering_then c (ordering_then d e))))
 five a b c d e =
-    rw (is_eq_then a (ordering_then b (ordering_then c (ordering_then d e))), is_eq_then b (ordering_then c (ordering_then d e)), is_eq_then c (ordering_then d e), is_eq_then d e, and_true (is_eq e)) refl
+    rw (
+      is_eq_then a (ordering_then b (ordering_then c (ordering_then d e))),
+      is_eq_then b
+          (ordering_then c (ordering_then d e)),
+      is_eq_then c (ordering_then d e),
+      is_eq_then d e,
+      and_true (is_eq e),
+    ) refl
 
 pub zoom_test : (table : Text) (r : Row) → past_rowid r ≡ extension_row (extension_of r)
     → passes zoom_terms (Words table ∷ []) r ≡ is_extension (zoom_extension table) r
@@ -139,7 +172,8 @@ zoom_test table r is =
     (five (option_cmp text_cmp e.table (Some table)) (option_cmp text_cmp e.column (Some (codes "tile_data"))) (text_cmp e.name (codes "gpkg_zoom_other")) (text_cmp e.definition (codes "OGC 12-128r17")) (text_cmp e.scope (codes "read-write")))
 
 -- where the column is absent
-maybe_absent : (o : Option Text) → is_true (binary (Is Binary) (maybe_words o) Null) ≡ is_eq (option_cmp text_cmp o None)
+maybe_absent : (o : Option Text) → is_true (binary (Is Binary) (maybe_words o) Null)
+    ≡ is_eq (option_cmp text_cmp o None)
 unfolding binary value_cmp lib.Ieee.is_nan lib.Ieee.lt
 maybe_absent None = refl
 maybe_absent (Some t) = refl
@@ -155,10 +189,15 @@ pub related_test : (mapping : Text) (r : Row) → past_rowid r ≡ extension_row
     → passes related_terms (Words mapping ∷ []) r ≡ is_extension (mapping_extension mapping) r
 related_test mapping r is =
     let e = extension_of r in
-    ap (λ x. related_where mapping x (column r 2) (column r 3) (column r 4) (column r 5)) (columns_are r (extension_row e) 0 is)
-    ∙ ap (λ x. related_where mapping (maybe_words e.table) x (column r 3) (column r 4) (column r 5)) (columns_are r (extension_row e) 1 is)
-    ∙ ap (λ x. related_where mapping (maybe_words e.table) (maybe_words e.column) x (column r 4) (column r 5)) (columns_are r (extension_row e) 2 is)
-    ∙ ap (λ x. related_where mapping (maybe_words e.table) (maybe_words e.column) (Words e.name) x (column r 5)) (columns_are r (extension_row e) 3 is)
-    ∙ ap (λ x. related_where mapping (maybe_words e.table) (maybe_words e.column) (Words e.name) (Words e.definition) x) (columns_are r (extension_row e) 4 is)
+    ap (λ x. related_where mapping x (column r 2) (column r 3) (column r 4) (column r 5))
+    (columns_are r (extension_row e) 0 is)
+    ∙ ap (λ x. related_where mapping (maybe_words e.table) x (column r 3) (column r 4) (column r 5))
+    (columns_are r (extension_row e) 1 is)
+    ∙ ap (λ x. related_where mapping (maybe_words e.table) (maybe_words e.column) x (column r 4) (column r 5))
+    (columns_are r (extension_row e) 2 is)
+    ∙ ap (λ x. related_where mapping (maybe_words e.table) (maybe_words e.column) (Words e.name) x (column r 5))
+    (columns_are r (extension_row e) 3 is)
+    ∙ ap (λ x. related_where mapping (maybe_words e.table) (maybe_words e.column) (Words e.name) (Words e.definition) x)
+    (columns_are r (extension_row e) 4 is)
     ∙ rw (equal_maybe e.table mapping, maybe_absent e.column, equal_text e.name (codes "gpkg_related_tables"), equal_text e.definition (codes "OGC 18-000"), equal_text e.scope (codes "read-write"))
     (five (option_cmp text_cmp e.table (Some mapping)) (option_cmp text_cmp e.column None) (text_cmp e.name (codes "gpkg_related_tables")) (text_cmp e.definition (codes "OGC 18-000")) (text_cmp e.scope (codes "read-write")))

@@ -14,15 +14,18 @@ use Rattle.sql_forms.proofs.Maps as maps
 use Rattle.mm_definitions.proofs.Parts.{IsKeyOrder, not_none, kept, after_retain}
 
 -- The rows of a table are the entries of a map, and the test finds the row of a key.
-pub record IsPart {K V : Type 0} (R : K → K → Ordering) (part : Row → Row) (row_of : K → V → Row) (test : K → Row → Bool) : Type 0 where
+pub record IsPart {K V : Type 0} (R : K → K → Ordering) (part : Row → Row) (row_of : K → V → Row)
+    (test : K → Row → Bool) : Type 0 where
   pub order : IsKeyOrder R
   pub key_is : (k l : K) (v w : V) → row_of k v ≡ row_of l w → k ≡ l
   pub value_is : (k l : K) (v w : V) → row_of k v ≡ row_of l w → v ≡ w
   pub decides : (k : K) (r : Row) (l : K) (v : V) → part r ≡ row_of l v → test k r ≡ eq_by_cmp R l k
 
-module _ {K V : Type 0} {R : K → K → Ordering} {part : Row → Row} {row_of : K → V → Row} {test : K → Row → Bool} (it : IsPart R part row_of test) where
+module _ {K V : Type 0} {R : K → K → Ordering} {part : Row → Row} {row_of : K → V → Row} {test : K → Row → Bool}
+    (it : IsPart R part row_of test) where
   -- the same rows hold at most one map
-  carried : (rows : List Row) (m n : FinMap R V) → Holds part row_of rows m → Holds part row_of rows n → (k : K) (v : V) → get m k ≡ Some v → get n k ≡ Some v
+  carried : (rows : List Row) (m n : FinMap R V) → Holds part row_of rows m → Holds part row_of rows n → (k : K) (v : V)
+      → get m k ≡ Some v → get n k ≡ Some v
   carried rows m n h j k v is =
       let r = h.complete k v is in
       let at = j.sound r.0 r.1 in
@@ -52,37 +55,46 @@ module _ {K V : Type 0} {R : K → K → Ordering} {part : Row → Row} {row_of 
       found = go (list_any (test k) rows) refl
         where
           go : (b : Bool) → list_any (test k) rows ≡ b → b ≡ contains_key m k
-          go true is = let r = some_has (test k) rows is in let at = maps.passes_at it.order.total it.order.exact part row_of it.key_is rows m h k (test k) (it.decides k) r.0 r.1 r.2 in sym (ap is_some at.1)
-          go false is = sym (ap is_some (maps.none_at it.order.total it.order.exact part row_of it.key_is rows m h k (test k) (it.decides k) is))
+          go true is = let r = some_has (test k) rows is in let at = maps.passes_at it.order.total it.order.exact part
+              row_of it.key_is rows m h k (test k) (it.decides k) r.0 r.1 r.2 in sym (ap is_some at.1)
+          go false is = sym (ap is_some (maps.none_at it.order.total it.order.exact part row_of it.key_is rows m h k
+              (test k) (it.decides k) is))
 
       pub finds_none : (show : Row → Row) → FindsRow (test k) show rows None → get m k ≡ None
-      finds_none show none = maps.none_at it.order.total it.order.exact part row_of it.key_is rows m h k (test k) (it.decides k) none
+      finds_none show none = maps.none_at it.order.total it.order.exact part row_of it.key_is rows m h k (test k)
+          (it.decides k) none
 
       pub finds_some : (show : Row → Row) (x : Row) → FindsRow (test k) show rows (Some x)
           → (v : V) × (get m k ≡ Some v) × (r : Row) × (part r ≡ row_of k v) × (x ≡ show r)
       finds_some show x some =
-          let at = maps.passes_at it.order.total it.order.exact part row_of it.key_is rows m h k (test k) (it.decides k) some.0 some.1 some.2 in
+          let at = maps.passes_at it.order.total it.order.exact part row_of it.key_is rows m h k (test k) (it.decides k)
+          some.0 some.1 some.2 in
           (at.0, at.1, some.0, at.2, some.3)
 
       -- ---- put, remove and change
 
-      pub puts : (v : V) (new : Row) → get m k ≡ None → part new ≡ row_of k v → is_taken rows new ≡ false → Holds part row_of (put_row new rows) (insert m k v)
+      pub puts : (v : V) (new : Row) → get m k ≡ None → part new ≡ row_of k v → is_taken rows new ≡ false
+          → Holds part row_of (put_row new rows) (insert m k v)
       puts = maps.inserts it.order.total it.order.exact part row_of it.key_is rows m h k
 
       pub removes : Holds part row_of (without (test k) rows) (remove m k)
       removes = maps.removes it.order.total it.order.exact part row_of it.key_is rows m h k (test k) (it.decides k)
 
       -- the same by another test that finds the row
-      pub removes_where : (out : Row → Bool) → ((r : Row) (l : K) (v : V) → part r ≡ row_of l v → out r ≡ eq_by_cmp R l k)
+      pub removes_where : (out : Row → Bool)
+          → ((r : Row) (l : K) (v : V) → part r ≡ row_of l v → out r ≡ eq_by_cmp R l k)
           → Holds part row_of (without out rows) (remove m k)
       removes_where out tells = maps.removes it.order.total it.order.exact part row_of it.key_is rows m h k out tells
 
-      pub changes : (change : Row → Row) (v w : V) → get m k ≡ Some v → ((r : Row) → part r ≡ row_of k v → part (change r) ≡ row_of k w)
+      pub changes : (change : Row → Row) (v w : V) → get m k ≡ Some v
+          → ((r : Row) → part r ≡ row_of k v → part (change r) ≡ row_of k w)
           → Holds part row_of (with_changed (test k) change rows) (insert m k w)
-      changes change v w stands changes_to = maps.changes it.order.total it.order.exact part row_of it.key_is rows m h k (test k) (it.decides k) change v w stands changes_to
+      changes change v w stands changes_to = maps.changes it.order.total it.order.exact part row_of it.key_is rows m h k
+          (test k) (it.decides k) change v w stands changes_to
 
     -- the rows whose keys don't pass are gone
-    pub retains : (out : Row → Bool) (keep : K → Bool) → ((r : Row) (l : K) (v : V) → part r ≡ row_of l v → not (out r) ≡ keep l)
+    pub retains : (out : Row → Bool) (keep : K → Bool)
+        → ((r : Row) (l : K) (v : V) → part r ≡ row_of l v → not (out r) ≡ keep l)
         → Holds part row_of (without out rows) (retain_keys m keep)
     retains out keep tells = record {
       sound = λ r there.
@@ -93,5 +105,6 @@ module _ {K V : Type 0} {R : K → K → Ordering} {part : Row → Row} {row_of 
           let a = after_retain it.order m keep l v is in
           let r = h.complete l v a.1 in
           (r.0, has_kept (λ x. not (out x)) rows r.0 r.1 (tells r.0 l v r.2 ∙ a.0), r.2);
-      apart = λ r s p q. h.apart r s (has_filtered (λ x. not (out x)) rows r p).0 (has_filtered (λ x. not (out x)) rows s q).0;
+      apart = λ r s p q. h.apart r s (has_filtered (λ x. not (out x)) rows r p).0
+          (has_filtered (λ x. not (out x)) rows s q).0;
     }

@@ -1,5 +1,6 @@
 -- A statement on a database that stands for a package.
-use Rattle.std.proofs.Common.{◌≡◌, ℕ, ℤ, Bool, true, false, List, [], ◌∷◌, Option, is_some, Result, Ok, Err, IfOk, OnOk, IsTrue, refl, sym, subst, ◌∙◌}
+use Rattle.std.proofs.Common.{◌≡◌, ℕ, ℤ, Bool, true, false, List, [], ◌∷◌, Option, is_some, Result, Ok, Err, IfOk, OnOk}
+use Rattle.std.proofs.Common.{IsTrue, refl, sym, subst, ◌∙◌}
 use Rattle.std.specs.Prelude.{⊤}
 use Rattle.std.specs.List.{list_any}
 use Rattle.sqlite.specs.declared.types.Value.{Value}
@@ -15,7 +16,8 @@ use Rattle.sqlite.specs.Tree.{Trees, with_tree, put_row}
 use Rattle.sqlite.specs.State.{State, ExecutesInside, IsUnchanged}
 use Rattle.sql_forms.specs.Listing.{IsSound}
 use Rattle.sql_forms.specs.Forms.{first_of}
-use Rattle.sql_forms.specs.Tables.{tables_of, AreRows, IsReady, Leaves, IsFirstShown, FindsRow, passes, without, with_changed}
+use Rattle.sql_forms.specs.Tables.{tables_of, AreRows, IsReady, Leaves, IsFirstShown, FindsRow, passes, without}
+use Rattle.sql_forms.specs.Tables.{with_changed}
 use Rattle.sql_forms.proofs.Cascades.{IsCascade, cascaded}
 use Rattle.sql_forms.specs.Cascade.{cut}
 use Rattle.sql_forms.proofs.Casts.{are_of}
@@ -36,10 +38,13 @@ use Rattle.mm_store.specs.Handed.{IsSame, Runs, AsksFirst, Asks, Looks, Tells, C
 abbrev pub seen : State → Trees
 seen s = tables_of schema s.now.trees
 
-pub ready_inside : (profile : Profile) (s : State) (ground : Ground) (p : Package) → StandsInside profile s ground p → IsTrue s.is_open → IsReady schema s
-ready_inside profile s ground p it up = let at = it.reads up in record { schema_is = at.schema_is; inside = it.mode; rows = at.stands.rows }
+pub ready_inside : (profile : Profile) (s : State) (ground : Ground) (p : Package) → StandsInside profile s ground p
+    → IsTrue s.is_open → IsReady schema s
+ready_inside profile s ground p it up = let at =
+    it.reads up in record { schema_is = at.schema_is; inside = it.mode; rows = at.stands.rows }
 
-pub inside_same : (profile : Profile) (old new : State) (ground : Ground) (p : Package) → IsUnchanged old new → StandsInside profile old ground p
+pub inside_same : (profile : Profile) (old new : State) (ground : Ground) (p : Package) → IsUnchanged old new
+    → StandsInside profile old ground p
     → StandsInside profile new ground p
 inside_same profile old new ground p same it = record {
   mode = same.0.mode ∙ it.mode;
@@ -48,12 +53,14 @@ inside_same profile old new ground p same it = record {
 }
 
 -- what the first row that is shown tells of the package
-abbrev pub FindsFirst : {T : Type 0} → State → State → List ℕ → Row → (T → Option Row → Type 0) → (Package → T → Type 0) → Type 0
+abbrev pub FindsFirst : {T : Type 0} → State → State → List ℕ → Row → (T → Option Row → Type 0) → (Package → T → Type 0)
+    → Type 0
 FindsFirst {T} old new sql given Gives Says = (x : T) (first : Option Row) → IsReady schema old
     → IsFirstShown sql given old new first → Gives x first
     → IsUnchanged old new × ((version : ℤ) (p : Package) → Holding version (seen old) p → Says p x)
 
-told : {T : Type 0} (old new : State) (sql : List ℕ) (given : Row) (Gives : T → Option Row → Type 0) (Says : Package → T → Type 0)
+told : {T : Type 0} (old new : State) (sql : List ℕ) (given : Row) (Gives : T → Option Row → Type 0)
+    (Says : Package → T → Type 0)
     → FindsFirst old new sql given Gives Says
     → (profile : Profile) (ground : Ground) (p : Package) → StandsInside profile old ground p → (r : Result T Fault)
     → IfOk r (λ x. (first : Option Row) × IsFirstShown sql given old new first × Gives x first)
@@ -61,8 +68,12 @@ told : {T : Type 0} (old new : State) (sql : List ℕ) (given : Row) (Gives : T 
 told old new sql given Gives Says finds profile ground p it (Err e) h = tt
 told old new sql given Gives Says finds profile ground p it (Ok x) h =
     let up = shown_open sql given old new h.1.0 h.1.1 in
-    let found = finds x h.0 (ready_inside profile old ground p it up) h.1 h.2 in
-    (found.0.0.is_open, inside_same profile old new ground p found.0 it, found.1 profile.version p (it.reads up).stands.holds)
+    let found = finds x h.0 (ready_inside profile old ground p it up) h.1 h.2 in (
+      found.0.0.is_open,
+      inside_same profile old new ground p found.0 it,
+      found.1 profile.version p
+          (it.reads up).stands.holds,
+    )
 
 module _ {S : Type 0} {g : Ghosts S} {a b : Transaction S} {sql : List ℕ} {given : Row} where
   -- ---- a query, by its first row
@@ -104,9 +115,11 @@ module _ {S : Type 0} {g : Ghosts S} {a b : Transaction S} {sql : List ℕ} {giv
         (read.0, λ version p holds. finds version p (seen (state g a.conn.now)) holds x first gives read.1))
 
     -- whether there is one
-    pub asks_any : {told : Package → Bool} {r : Result Bool Fault} → AsksFirst g a b sql given (λ found first. found ≡ is_some first) r
+    pub asks_any : {told : Package → Bool} {r : Result Bool Fault}
+        → AsksFirst g a b sql given (λ found first. found ≡ is_some first) r
         → (params : Row) → given ≡ params
-        → ((version : ℤ) (p : Package) (db : Trees) → Holding version db p → list_any (passes terms params) (db tree) ≡ told p)
+        → ((version : ℤ) (p : Package) (db : Trees) → Holding version db p → list_any (passes terms params) (db tree)
+        ≡ told p)
         → Tells g a b told r
     asks_any h params same finds = looks_first h (λ x first ready shown gives.
         let read = selects_any schema sql tree terms project names it (state g a.conn.now)
@@ -115,7 +128,8 @@ module _ {S : Type 0} {g : Ghosts S} {a b : Transaction S} {sql : List ℕ} {giv
 
   -- ---- a statement that changes the tables so
 
-  module _ {When : Package → Type 0} {next : Package → Package} {r : Result (Unit {0}) Fault} (h : Runs g a b sql given r) where
+  module _ {When : Package → Type 0} {next : Package → Package} {r : Result (Unit {0}) Fault}
+      (h : Runs g a b sql given r) where
     pub makes : (tables : Trees → Trees)
         → ((count : ℕ) → IsReady schema (state g a.conn.now) → ExecutesInside 0 sql given (state g a.conn.now)
         (state g b.conn.now) (Ok count)
@@ -134,7 +148,8 @@ module _ {S : Type 0} {g : Ghosts S} {a b : Transaction S} {sql : List ℕ} {giv
         made : (profile : Profile) (ground : Ground) (p : Package) → StandsInside profile (state g a.conn.now) ground p
             → When p → (r : Result (Unit {0}) Fault)
             → OnOk r ((count : ℕ) × ExecutesInside 0 sql given (state g a.conn.now) (state g b.conn.now) (Ok count))
-            → IfOk r (λ it. IsTrue (state g b.conn.now).is_open × StandsInside profile (state g b.conn.now) ground (next p) × ⊤)
+            → IfOk r (λ it. IsTrue (state g b.conn.now).is_open × StandsInside profile (state g b.conn.now) ground
+            (next p) × ⊤)
         made profile ground p it when (Err e) ran = tt
         made profile ground p it when (Ok u) ran =
             let old = state g a.conn.now in
@@ -165,7 +180,8 @@ module _ {S : Type 0} {g : Ghosts S} {a b : Transaction S} {sql : List ℕ} {giv
         → (row : Row) → eval_all terms (params ∷ []) ≡ Null ∷ row → are_of table.columns row ≡ true
         → ((version : ℤ) (db : Trees) (p : Package) → Holding version db p → is_taken (db table.tree)
         (Int (next_rowid (db table.tree)) ∷ row) ≡ false → When p
-        → Holding version (with_tree db table.tree (put_row (Int (next_rowid (db table.tree)) ∷ row) (db table.tree))) (next p))
+        → Holding version (with_tree db table.tree (put_row (Int (next_rowid (db table.tree)) ∷ row) (db table.tree)))
+        (next p))
         → ChangesWhere g a b When next r
     inserts {table = table} it params same row values typed holds =
         makes (λ db. with_tree db table.tree (put_row (Int (next_rowid (db table.tree)) ∷ row) (db table.tree)))
@@ -178,16 +194,19 @@ module _ {S : Type 0} {g : Ghosts S} {a b : Transaction S} {sql : List ℕ} {giv
         (params : Row) → given ≡ params
         → ((version : ℤ) (db : Trees) (p : Package) → Holding version db p → When p
         → Holding version
-        (with_tree db table.tree (with_changed (passes terms params) (updated table sets params) (db table.tree))) (next p))
+        (with_tree db table.tree (with_changed (passes terms params) (updated table sets params) (db table.tree)))
+        (next p))
         → ChangesWhere g a b When next r
     updates {table = table} {terms = terms} {sets = sets} it params same holds =
-        makes (λ db. with_tree db table.tree (with_changed (passes terms params) (updated table sets params) (db table.tree)))
+        makes (λ db. with_tree db table.tree
+        (with_changed (passes terms params) (updated table sets params) (db table.tree)))
         (λ count ready ran. has_changed schema sql _ table terms sets it (state g a.conn.now)
         (state g b.conn.now) ready params given (Ok count) same ran)
         (λ version db p rows h when. holds version db p h when)
 
     -- the rows that pass WHERE are gone
-    pub deletes : {at : ℕ} {table : Table} {terms : List Term} → IsDelete schema sql at table terms → (params : Row) → given ≡ params
+    pub deletes : {at : ℕ} {table : Table} {terms : List Term} → IsDelete schema sql at table terms → (params : Row)
+        → given ≡ params
         → ((version : ℤ) (db : Trees) (p : Package) → Holding version db p → When p
         → Holding version (with_tree db table.tree (without (passes terms params) (db table.tree))) (next p))
         → ChangesWhere g a b When next r
@@ -200,7 +219,8 @@ module _ {S : Type 0} {g : Ghosts S} {a b : Transaction S} {sql : List ℕ} {giv
     -- so are those that hang on them
     pub cascades : {at : ℕ} {table : Table} {n : ℕ} {place : ℕ → Option ℕ} → IsCascade schema sql at table n place →
         (key : Value) → given ≡ key ∷ []
-        → ((version : ℤ) (db : Trees) (p : Package) → Holding version db p → When p → Holding version (cut place key db) (next p))
+        → ((version : ℤ) (db : Trees) (p : Package) → Holding version db p → When p → Holding version (cut place key db)
+        (next p))
         → ChangesWhere g a b When next r
     cascades {place = place} it key same holds =
         makes (cut place key)

@@ -23,13 +23,18 @@ settles profile ended last ground next law shows it = record {
   back = λ _. subst (λ d. ReadsAs profile.version d next) (sym shows.committed_is) (it.reads shows.was_open);
   reads = λ _. subst (λ d. ReadsAs profile.version d next) (sym shows.now_is) (it.reads shows.was_open);
   left = λ db may.
-      subst (λ t. StandsFor profile.version t next) (sym (law db shows.is_open may)) (subst (λ d. ReadsAs profile.version d next) (sym shows.committed_is) (it.reads shows.was_open)).stands;
+      subst (λ t. StandsFor profile.version t next) (sym (law db shows.is_open may))
+      (subst (λ d. ReadsAs profile.version d next) (sym shows.committed_is) (it.reads shows.was_open)).stands;
 }
 
 -- a transaction that was rolled back leaves the connection settled as before
-module _ {S : Type 0} (g : Ghosts S) (was now : Held S) (begun : now ≡ record was { in_transaction = true }) (ended last : State) (one : CommitsNothing (state g now) ended) (two : CommitsNothing ended last) where
-  pub begins : (profile : Profile) (p : Package) → IsSettled profile (state g was) p → StandsInside profile (state g now) (ground_of (state g was)) p
+module _ {S : Type 0} (g : Ghosts S) (was now : Held S) (begun : now ≡ record was { in_transaction = true })
+    (ended last : State) (one : CommitsNothing (state g now) ended) (two : CommitsNothing ended last) where
+  pub begins : (profile : Profile) (p : Package) → IsSettled profile (state g was) p
+      → StandsInside profile (state g now) (ground_of (state g was)) p
   begins profile p it = rw begun (record { mode = refl; back = λ is_open. (refl, is_open); reads = it.reads })
 
   pub rolled_quiet : CommitsNothing (state g was) last
-  rolled_quiet = survives_begin g was last (λ _. ⊥) (rw begun at (survives_then (state g now) ended last _ _ (λ _. ⊥) (λ _ db none. none) (λ _ db none. none) one two))
+  rolled_quiet = survives_begin g was last (λ _. ⊥)
+      (rw begun at (survives_then (state g now) ended last _ _ (λ _. ⊥) (λ _ db none. none) (λ _ db none. none) one
+      two))

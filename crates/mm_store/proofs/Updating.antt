@@ -10,19 +10,23 @@ use Rattle.sql_forms.proofs.Updates.{IsUpdate}
 use Rattle.mm_store.specs.Tables.{schema, gpkg_contents, mm_tiles, mm_rows, mm_media, mm_editions}
 use Rattle.mm_store.specs.Compiled as text
 
-pub touch : IsUpdate schema text.touch_contents 1 gpkg_contents (equals 1 0 ∷ compares Ne 5 1 ∷ []) (col 1 1 ∷ col 1 2 ∷ col 1 3 ∷ col 1 4 ∷ col 0 1 ∷ col 1 6 ∷ col 1 7 ∷ col 1 8 ∷ col 1 9 ∷ col 1 10 ∷ [])
+pub touch : IsUpdate schema text.touch_contents 1 gpkg_contents (equals 1 0 ∷ compares Ne 5 1 ∷ [])
+    (col 1 1 ∷ col 1 2 ∷ col 1 3 ∷ col 1 4 ∷ col 0 1 ∷ col 1 6 ∷ col 1 7 ∷ col 1 8 ∷ col 1 9 ∷ col 1 10 ∷ [])
 unfolding understood everything
 touch = record { compiled = refl; plain = (refl, refl); placed = refl; idle = λ moves. refl; none = refl }
 
-pub update_tile : IsUpdate schema text.update_tile 8 mm_tiles (equals 1 0 ∷ equals 2 1 ∷ equals 3 2 ∷ equals 4 3 ∷ []) (col 1 1 ∷ col 1 2 ∷ col 1 3 ∷ col 1 4 ∷ col 0 4 ∷ [])
+pub update_tile : IsUpdate schema text.update_tile 8 mm_tiles (equals 1 0 ∷ equals 2 1 ∷ equals 3 2 ∷ equals 4 3 ∷ [])
+    (col 1 1 ∷ col 1 2 ∷ col 1 3 ∷ col 1 4 ∷ col 0 4 ∷ [])
 unfolding understood everything
 update_tile = record { compiled = refl; plain = (refl, refl); placed = refl; idle = λ moves. refl; none = refl }
 
-pub update_row : IsUpdate schema text.update_row 9 mm_rows (equals 1 0 ∷ equals 2 1 ∷ []) (col 1 1 ∷ col 1 2 ∷ col 0 2 ∷ col 0 3 ∷ col 0 4 ∷ [])
+pub update_row : IsUpdate schema text.update_row 9 mm_rows (equals 1 0 ∷ equals 2 1 ∷ [])
+    (col 1 1 ∷ col 1 2 ∷ col 0 2 ∷ col 0 3 ∷ col 0 4 ∷ [])
 unfolding understood everything
 update_row = record { compiled = refl; plain = (refl, refl); placed = refl; idle = λ moves. refl; none = refl }
 
-pub update_medium : IsUpdate schema text.update_medium 10 mm_media (equals 1 0 ∷ equals 2 1 ∷ []) (col 1 1 ∷ col 1 2 ∷ col 0 2 ∷ col 0 3 ∷ [])
+pub update_medium : IsUpdate schema text.update_medium 10 mm_media (equals 1 0 ∷ equals 2 1 ∷ [])
+    (col 1 1 ∷ col 1 2 ∷ col 0 2 ∷ col 0 3 ∷ [])
 unfolding understood everything
 update_medium = record { compiled = refl; plain = (refl, refl); placed = refl; idle = λ moves. refl; none = refl }
 

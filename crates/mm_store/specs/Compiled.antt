@@ -1,4 +1,5 @@
--- The text of the statements of commands and reads, table by table; those of the rules, the blobs and the scaling stand in their crates.
+-- The text of the statements of commands and reads, table by table; those of the rules, the blobs and the scaling stand
+-- in their crates.
 use Rattle.std.specs.Prelude.{ℕ, List, codes}
 
 -- ---- the profile
@@ -43,7 +44,8 @@ insert_plain_contents = codes "INSERT INTO gpkg_contents (table_name, data_type,
 abbrev pub touch_contents : List ℕ
 touch_contents = codes "UPDATE gpkg_contents SET last_change = ?2 WHERE table_name = ?1 AND last_change <> ?2"
 
--- removes a contents row, and by CASCADE kind, matrix set, matrices, tiles, attribute rows and media of the table; blobs stay
+-- removes a contents row, and by CASCADE kind, matrix set, matrices, tiles, attribute rows and media of the table;
+-- blobs stay
 abbrev pub delete_table : List ℕ
 delete_table = codes "DELETE FROM gpkg_contents WHERE table_name = ?1"
 

@@ -1,4 +1,5 @@
--- What a call does with the transaction that it is handed, whatever the profile is. Each leaves it the transaction on the same connection (`same`).
+-- What a call does with the transaction that it is handed, whatever the profile is. Each leaves it the transaction on
+-- the same connection (`same`).
 use Rattle.std.specs.Prelude.{◌≡◌, ◌⊎◌, ℕ, ⊤, List, Option, Result, IfOk, IfErr, IsTrue}
 use Rattle.sqlite.specs.Held.{state}
 use Rattle.sqlite.specs.Order.{Row}
@@ -43,24 +44,31 @@ module _ {S : Type 0} (g : Ghosts S) (old new : Transaction S) where
       pub asked : IsAsked (state g old.conn.now) (state g new.conn.now) sql params Says result
       pub failed : HasCleanDisk (state g new.conn.now)
           → IfErr result (λ fault. (e : Error) × (fault ≡ told_as e)
-          × (FailsToQuery sql params (state g old.conn.now) (state g new.conn.now) e ⊎ IsTooLate sql params (state g old.conn.now) (state g new.conn.now) e))
+          × (FailsToQuery sql params (state g old.conn.now) (state g new.conn.now) e
+          ⊎ IsTooLate sql params (state g old.conn.now) (state g new.conn.now) e))
 
   module _ {T : Type 0} where
     -- it asks the statement, and answers so of the first row
-    pub record Asks (sql : List ℕ) (params : Row) (Says : T → Option Row → Type 0) (result : Result T Fault) : Type 0 where
-      pub same : IsSame old new
-      pub asked : IsAsked (state g old.conn.now) (state g new.conn.now) sql params Says result
+    pub record Asks (sql : List ℕ) (params : Row) (Says : T → Option Row → Type 0) (result : Result T Fault) : Type 0
+      where
+        pub same : IsSame old new
+        pub asked : IsAsked (state g old.conn.now) (state g new.conn.now) sql params Says result
 
-    -- Where `When` holds of the package, a success leaves the transaction standing for `next`, and `Says` holds of the package before and of
-    -- the answer. Nothing is committed, a rollback goes back to where it did, after a fault too, and a fault is 90 or 91.
-    pub record Goes (When : Profile → Package → Type 0) (next : Package → T → Package) (Says : Profile → Package → T → Type 0) (result : Result T Fault) : Type 0 where
+    -- Where `When` holds of the package, a success leaves the transaction standing for `next`, and `Says` holds of the
+    -- package before and of the answer. Nothing is committed, a rollback goes back to where it did, after a fault too,
+    -- and a fault is 90 or 91.
+    pub record Goes (When : Profile → Package → Type 0) (next : Package → T → Package)
+        (Says : Profile → Package → T → Type 0) (result : Result T Fault) : Type 0 where
       pub same : IsSame old new
       pub survives : CommitsNothing (state g old.conn.now) (state g new.conn.now)
-      pub on : HasCleanDisk (state g new.conn.now) → (profile : Profile) (ground : Ground) (p : Package) → StandsInside profile (state g old.conn.now) ground p
+      pub on : HasCleanDisk (state g new.conn.now) → (profile : Profile) (ground : Ground) (p : Package)
+          → StandsInside profile (state g old.conn.now) ground p
           → When profile p → StandsOn (state g new.conn.now) ground
-      pub comes : HasCleanDisk (state g new.conn.now) → (profile : Profile) (ground : Ground) (p : Package) → StandsInside profile (state g old.conn.now) ground p
+      pub comes : HasCleanDisk (state g new.conn.now) → (profile : Profile) (ground : Ground) (p : Package)
+          → StandsInside profile (state g old.conn.now) ground p
           → When profile p
-          → IfOk result (λ it. IsTrue (state g new.conn.now).is_open × StandsInside profile (state g new.conn.now) ground (next p it) × Says profile p it)
+          → IfOk result (λ it. IsTrue (state g new.conn.now).is_open × StandsInside profile (state g new.conn.now)
+          ground (next p it) × Says profile p it)
       pub faults : IfErr result IsStoreFault
 
     -- it only looks, and answers so of the package
@@ -84,7 +92,8 @@ module _ {S : Type 0} (g : Ghosts S) (old new : Transaction S) where
     Changes = ChangesWhere (λ p. ⊤)
 
     -- it makes the change for which this holds
-    pub record ChangesFor {X : Type 0} (When : X → Package → Type 0) (next : X → Package → Package) (result : Result T Fault) : Type 0 where
+    pub record ChangesFor {X : Type 0} (When : X → Package → Type 0) (next : X → Package → Package)
+        (result : Result T Fault) : Type 0 where
       pub same : IsSame old new
       pub goes : (x : X) → ChangesWhere (When x) (next x) result
 
@@ -96,4 +105,5 @@ module _ {S : Type 0} (g : Ghosts S) (old new : Transaction S) where
 
   -- it does the command, whatever the moment is
   pub record Applies (command : Command) (result : Result Outcome Fault) : Type 0 where
-    pub goes : (moment : ℕ) → Goes Meets (λ p it. step p command moment) (λ profile p it. refusal p command ≡ refused_as it) result
+    pub goes : (moment : ℕ) → Goes Meets (λ p it. step p command moment)
+        (λ profile p it. refusal p command ≡ refused_as it) result

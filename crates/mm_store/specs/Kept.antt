@@ -33,7 +33,20 @@ piece_id r = r.blob
 
 -- a piece is its bytes and the other columns of its row
 abbrev pub piece_with : StagedRow → List ℕ → PieceRow
-piece_with r bytes = record { kind = r.kind; name = r.name; k1 = r.k1; k2 = r.k2; k3 = r.k3; k4 = r.k4; k5 = r.k5; k6 = r.k6; k7 = r.k7; t1 = r.t1; t2 = r.t2; bytes = bytes }
+piece_with r bytes = record {
+  kind = r.kind;
+  name = r.name;
+  k1 = r.k1;
+  k2 = r.k2;
+  k3 = r.k3;
+  k4 = r.k4;
+  k5 = r.k5;
+  k6 = r.k6;
+  k7 = r.k7;
+  t1 = r.t1;
+  t2 = r.t2;
+  bytes = bytes;
+}
 
 -- ---- what is kept
 
@@ -46,7 +59,8 @@ pub record Kept : Type 0 where
 
 -- a tile, a medium or a piece names the blob
 abbrev pub IsNamed : Kept → ℤ → Type 0
-IsNamed kept id = NamesBlob tile_id kept.tiles id ⊎ (NamesBlob medium_id kept.media id ⊎ NamesBlob piece_id kept.pieces id)
+IsNamed kept id = NamesBlob tile_id kept.tiles id
+    ⊎ (NamesBlob medium_id kept.media id ⊎ NamesBlob piece_id kept.pieces id)
 
 -- which blobs may stand though nothing names them
 abbrev pub Spare : Type 0

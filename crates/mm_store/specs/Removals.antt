@@ -37,7 +37,12 @@ without_edition_rows name p = record p {
 
 -- what is kept without the table, and all blobs still
 abbrev pub kept_without_table : Text → Kept → Kept
-kept_without_table table kept = record kept { tiles = retain_keys kept.tiles (λ k. is_other table k.table); media = retain_keys kept.media (λ k. is_other table k.table) }
+kept_without_table table kept =
+    record kept {
+      tiles = retain_keys kept.tiles (λ k. is_other table k.table);
+      media = retain_keys kept.media
+          (λ k. is_other table k.table);
+    }
 
 -- what is kept without the edition, and all blobs still
 abbrev pub kept_without_edition : Text → Kept → Kept
@@ -49,7 +54,8 @@ Freed {K} {I} id_of ids keep id = (k : K) × (i : I) × (keep k ≡ false) × (g
 
 -- a tile or a medium that goes with the table names the blob
 abbrev pub FreedByTable : Text → Kept → ℤ → Type 0
-FreedByTable table kept id = Freed tile_id kept.tiles (λ k. is_other table k.table) id ⊎ Freed medium_id kept.media (λ k. is_other table k.table) id
+FreedByTable table kept id = Freed tile_id kept.tiles (λ k. is_other table k.table) id
+    ⊎ Freed medium_id kept.media (λ k. is_other table k.table) id
 
 -- a piece that goes with the edition names the blob
 abbrev pub FreedByEdition : Text → Kept → ℤ → Type 0

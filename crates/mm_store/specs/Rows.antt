@@ -33,12 +33,14 @@ maybe_words (Some t) = Words t
 
 -- a system and its number; the column `srs_id` is the rowid, and so NULL in the stored row
 abbrev pub system_row : ℤ → System → Row
-system_row id s = Int id ∷ Words s.name ∷ Null ∷ Words s.organization ∷ Int s.organization_id ∷ Words s.definition ∷ Words s.description ∷ []
+system_row id s = Int id ∷ Words s.name ∷ Null ∷ Words s.organization ∷ Int s.organization_id ∷ Words s.definition
+    ∷ Words s.description ∷ []
 
 -- a contents row, with its table's name
 abbrev pub contents_row : Text → Contents → Row
 contents_row table c =
-    Words table ∷ Words c.data_type ∷ Words c.identifier ∷ Words c.description ∷ Words c.last_change ∷ maybe c.min_x ∷ maybe c.min_y ∷ maybe c.max_x ∷ maybe c.max_y ∷ maybe c.system ∷ []
+    Words table ∷ Words c.data_type ∷ Words c.identifier ∷ Words c.description ∷ Words c.last_change ∷ maybe c.min_x
+    ∷ maybe c.min_y ∷ maybe c.max_x ∷ maybe c.max_y ∷ maybe c.system ∷ []
 
 -- a row of the registry: a table's name and its kind
 abbrev pub kind_row : Text → Text → Row
@@ -46,11 +48,13 @@ kind_row table kind = Words table ∷ Words kind ∷ []
 
 -- a tile matrix set, with its pyramid's name
 abbrev pub set_row : Text → MatrixSet → Row
-set_row table s = Words table ∷ Int s.system ∷ Int s.box.min_x ∷ Int s.box.min_y ∷ Int s.box.max_x ∷ Int s.box.max_y ∷ []
+set_row table s = Words table ∷ Int s.system ∷ Int s.box.min_x ∷ Int s.box.min_y ∷ Int s.box.max_x ∷ Int s.box.max_y
+    ∷ []
 
 -- a tile matrix, with its pyramid's name and its zoom level
 abbrev pub grid_row : Level → Grid → Row
-grid_row k g = Words k.table ∷ Int k.zoom ∷ Int g.matrix_width ∷ Int g.matrix_height ∷ Int g.tile_width ∷ Int g.tile_height ∷ Int g.pixel_x_size ∷ Int g.pixel_y_size ∷ []
+grid_row k g = Words k.table ∷ Int k.zoom ∷ Int g.matrix_width ∷ Int g.matrix_height ∷ Int g.tile_width
+    ∷ Int g.tile_height ∷ Int g.pixel_x_size ∷ Int g.pixel_y_size ∷ []
 
 -- a tile names its blob
 abbrev pub tile_row : TileKey → ℤ → Row
@@ -71,7 +75,8 @@ medium_row k m = Words k.table ∷ Int k.id ∷ Int m.blob ∷ Words m.content_t
 
 -- a relation, with its mapping
 abbrev pub relation_row : Text → Relation → Row
-relation_row mapping r = Words r.base ∷ Words r.base_column ∷ Words r.related ∷ Words r.related_column ∷ Words r.name ∷ Words mapping ∷ []
+relation_row mapping r = Words r.base ∷ Words r.base_column ∷ Words r.related ∷ Words r.related_column ∷ Words r.name
+    ∷ Words mapping ∷ []
 
 -- a mapping row, which is nothing but its key
 abbrev pub pairing_row : Pairing → ⊤ → Row
@@ -99,7 +104,8 @@ pub record StagedRow : Type 0 where
 -- a staged piece, with its edition and its number
 abbrev pub staged_row : PieceKey → StagedRow → Row
 staged_row k r =
-    Words k.edition ∷ Int k.number ∷ Words r.kind ∷ Words r.name ∷ Int r.k1 ∷ Int r.k2 ∷ Int r.k3 ∷ Int r.k4 ∷ Int r.k5 ∷ Int r.k6 ∷ Int r.k7 ∷ Words r.t1 ∷ Words r.t2 ∷ maybe r.blob ∷ []
+    Words k.edition ∷ Int k.number ∷ Words r.kind ∷ Words r.name ∷ Int r.k1 ∷ Int r.k2 ∷ Int r.k3 ∷ Int r.k4 ∷ Int r.k5
+    ∷ Int r.k6 ∷ Int r.k7 ∷ Words r.t1 ∷ Words r.t2 ∷ maybe r.blob ∷ []
 
 -- ---- extension rows, of which there may be equal ones
 
@@ -119,7 +125,13 @@ maybe_of _ = None
 
 -- the extension that a row holds
 abbrev pub extension_of : Row → Extension
-extension_of r = record { table = maybe_of (column r 1); column = maybe_of (column r 2); name = words_of (column r 3); definition = words_of (column r 4); scope = words_of (column r 5) }
+extension_of r = record {
+  table = maybe_of (column r 1);
+  column = maybe_of (column r 2);
+  name = words_of (column r 3);
+  definition = words_of (column r 4);
+  scope = words_of (column r 5);
+}
 
 -- the row holds this extension
 abbrev pub is_extension : Extension → Row → Bool

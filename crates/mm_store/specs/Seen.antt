@@ -11,15 +11,17 @@ use Rattle.mm_store.specs.Statements.{CommitsNothing}
 use Rattle.sqlite.specs.Held.{Held, state}
 use Rattle.sqlite.specs.Store.{Ghosts}
 
--- No transaction is open, and the connection reads as the package, after a rollback too. What a crash would leave may be another.
+-- No transaction is open, and the connection reads as the package, after a rollback too. What a crash would leave may
+-- be another.
 pub record IsSeenAs (profile : Profile) (s : State) (p : Package) : Type 0 where
   pub mode : s.in_transaction ≡ false
   pub back : IsTrue s.is_open → ReadsAs profile.version s.committed p
   pub reads : IsTrue s.is_open → ReadsAs profile.version s.now p
 
--- A read on a connection with no transaction: it tells of the package that the connection reads as, where that meets the rules. After
--- a fault too the connection reads as before, and is settled where it was.
-pub record IsRead (profile : Profile) {T : Type 0} (old new : State) (Says : Package → T → Type 0) (result : Result T Fault) : Type 0 where
+-- A read on a connection with no transaction: it tells of the package that the connection reads as, where that meets
+-- the rules. After a fault too the connection reads as before, and is settled where it was.
+pub record IsRead (profile : Profile) {T : Type 0} (old new : State) (Says : Package → T → Type 0)
+    (result : Result T Fault) : Type 0 where
   pub survives : CommitsNothing old new
   pub seen : HasCleanDisk new → (p : Package) → IsSeenAs profile old p → IsSeenAs profile new p
   pub settled : HasCleanDisk new → (p : Package) → IsSettled profile old p → IsSettled profile new p

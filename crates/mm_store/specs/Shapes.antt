@@ -35,7 +35,8 @@ pub record ComesTo (profile : Profile) (s : State) (ground : Ground) (p : Packag
   pub inside : StandsInside profile s ground p
 
 module _ (profile : Profile) (c : Command) (moment : ℕ) (old new : State) (result : Result Outcome Fault) where
-  -- a command whose transaction is rolled back after a refusal: `on` says that a rollback goes back to where it did, after a fault too
+  -- a command whose transaction is rolled back after a refusal: `on` says that a rollback goes back to where it did,
+  -- after a fault too
   pub record IsTried : Type 0 where
     pub survives : CommitsNothing old new
     pub on : HasCleanDisk new → (ground : Ground) (p : Package) → ComesTo profile old ground p → StandsOn new ground

@@ -8,10 +8,13 @@ use Rattle.sqlite.specs.State.{State}
 use Rattle.sql_forms.specs.Listing.{IsSound}
 use Rattle.sql_forms.specs.Tables.{tables_of, AreTables}
 use Rattle.sql_forms.specs.Maps.{Holds}
-use Rattle.mm_store.specs.Tables.{schema, gpkg_spatial_ref_sys, gpkg_contents, gpkg_tile_matrix_set, gpkg_tile_matrix, gpkg_extensions, gpkgext_relations, mm_profile, mm_tables, mm_rows, mm_map, mm_editions}
+use Rattle.mm_store.specs.Tables.{schema, gpkg_spatial_ref_sys, gpkg_contents, gpkg_tile_matrix_set, gpkg_tile_matrix}
+use Rattle.mm_store.specs.Tables.{gpkg_extensions, gpkgext_relations, mm_profile, mm_tables, mm_rows, mm_map}
+use Rattle.mm_store.specs.Tables.{mm_editions}
 use Rattle.mm_definitions.specs.Package.{Package}
 use Rattle.mm_definitions.specs.Bounds.{Profile}
-use Rattle.mm_store.specs.Rows.{whole, past_rowid, past_id, system_row, contents_row, kind_row, set_row, grid_row, attribute_row, relation_row, pairing_row, edition_row, Counts}
+use Rattle.mm_store.specs.Rows.{whole, past_rowid, past_id, system_row, contents_row, kind_row, set_row, grid_row}
+use Rattle.mm_store.specs.Rows.{attribute_row, relation_row, pairing_row, edition_row, Counts}
 use Rattle.mm_store.specs.Kept.{Kept, HoldsKept, Spare, no_spare}
 
 -- the one row of the profile's table
@@ -38,7 +41,8 @@ pub record HoldingBut (spare : Spare) (version : ℤ) (tables : Trees) (p : Pack
 abbrev pub Holding : ℤ → Trees → Package → Type 0
 Holding = HoldingBut no_spare
 
--- The trees list the profile's tables and obey them, their rowids are integers that rise, and the rows are the package's, but for these blobs.
+-- The trees list the profile's tables and obey them, their rowids are integers that rise, and the rows are the
+-- package's, but for these blobs.
 pub record StandsForBut (spare : Spare) (version : ℤ) (db : Trees) (p : Package) : Type 0 where
   pub sound : ∥ IsSound schema db ∥₁
   pub rows : AreTables schema db

@@ -1,4 +1,5 @@
--- The tables of a package and the schema that they are, as values. The first six are the tables of a GeoPackage, under the names of the standard.
+-- The tables of a package and the schema that they are, as values. The first six are the tables of a GeoPackage, under
+-- the names of the standard.
 use Rattle.std.specs.Prelude.{ℕ, true, false, List, [], ◌∷◌, codes, Option, Some, None, slice_index_or}
 use Rattle.sqlite.specs.Collation.TheVariants.{Binary}
 use Rattle.sqlite.specs.declared.types.Value.TheVariants.{Null}
@@ -17,18 +18,41 @@ use Rattle.sql_forms.specs.Listing.{automatic}
 
 -- a NOT NULL column of a STRICT table, by its name and type; its texts compare byte by byte
 abbrev required : List ℕ → Kind → Column
-required name kind = record { name = name; kind = kind; is_strict = true; not_null = true; default = Null; collation = Binary }
+required name kind = record {
+  name = name;
+  kind = kind;
+  is_strict = true;
+  not_null = true;
+  default = Null;
+  collation = Binary;
+}
 
 -- the same of a column that may be NULL
 abbrev optional : List ℕ → Kind → Column
-optional name kind = record { name = name; kind = kind; is_strict = true; not_null = false; default = Null; collation = Binary }
+optional name kind = record {
+  name = name;
+  kind = kind;
+  is_strict = true;
+  not_null = false;
+  default = Null;
+  collation = Binary;
+}
 
--- a foreign key: its columns by their places, the table and the columns that it refers to, and what a removal there does
+-- a foreign key: its columns by their places, the table and the columns that it refers to, and what a removal there
+-- does
 abbrev refers : List ℕ → List ℕ → List (List ℕ) → Action → Reference
-refers columns parent parent_columns on_delete = record { columns = columns; parent = parent; parent_columns = parent_columns; on_delete = on_delete; on_update = NoAction; is_deferred = false }
+refers columns parent parent_columns on_delete =
+    record {
+      columns = columns;
+      parent = parent;
+      parent_columns = parent_columns;
+      on_delete = on_delete;
+      on_update = NoAction;
+      is_deferred = false;
+    }
 
--- A table, and the tree of its rows. `key` is the column that is the rowid, counted from 0; in the primary key, the unique keys and the
--- foreign keys a place counts the columns from 1, and 0 is the rowid.
+-- A table, and the tree of its rows. `key` is the column that is the rowid, counted from 0; in the primary key, the
+-- unique keys and the foreign keys a place counts the columns from 1, and 0 is the rowid.
 abbrev table : List ℕ → ℕ → List Column → Option ℕ → List ℕ → List (List ℕ) → List Order → List Reference → Table
 table name tree columns key primary uniques orders references = record {
   name = name;
@@ -47,7 +71,8 @@ table name tree columns key primary uniques orders references = record {
 
 -- an index that a text makes, of a column that may hold a value more than once
 abbrev index_on : List ℕ → ℕ → Table → List ℕ → Index
-index_on name tree it columns = record { name = name; tree = tree; table = it.tree; columns = columns; order = plain; is_unique = false }
+index_on name tree it columns =
+    record { name = name; tree = tree; table = it.tree; columns = columns; order = plain; is_unique = false }
 
 -- the index of one of the table's keys
 abbrev unique : Table → ℕ → ℕ → Index
@@ -99,7 +124,8 @@ gpkg_tile_matrix_set = table (codes "gpkg_tile_matrix_set") 4
     ∷ refers (2 ∷ []) (codes "gpkg_spatial_ref_sys") (codes "srs_id" ∷ []) NoAction
     ∷ [])
 
--- the tile matrices, by table name and zoom level, with pixel sizes in the unit of the profile; removed with their contents rows
+-- the tile matrices, by table name and zoom level, with pixel sizes in the unit of the profile; removed with their
+-- contents rows
 abbrev pub gpkg_tile_matrix : Table
 gpkg_tile_matrix = table (codes "gpkg_tile_matrix") 6
     (required (codes "table_name") Text
@@ -127,7 +153,8 @@ gpkg_extensions = table (codes "gpkg_extensions") 8
     None ([]) ((1 ∷ 2 ∷ 3 ∷ []) ∷ []) (plain ∷ [])
     ([])
 
--- the relations, by an id that the store chooses and by the mapping's name; a table that is an end of one can't be removed
+-- the relations, by an id that the store chooses and by the mapping's name; a table that is an end of one can't be
+-- removed
 abbrev pub gpkgext_relations : Table
 gpkgext_relations = table (codes "gpkgext_relations") 10
     (required (codes "id") Integer
@@ -162,7 +189,8 @@ mm_tables = table (codes "mm_tables") 13
     (refers (1 ∷ []) (codes "gpkg_contents") (codes "table_name" ∷ []) Cascade
     ∷ [])
 
--- the tiles of all pyramids, by table name, zoom level, column and row, each with the id of its blob; removed with their matrices
+-- the tiles of all pyramids, by table name, zoom level, column and row, each with the id of its blob; removed with
+-- their matrices
 abbrev pub mm_tiles : Table
 mm_tiles = table (codes "mm_tiles") 15
     (required (codes "table_name") Text
@@ -257,7 +285,9 @@ mm_blobs = table (codes "mm_blobs") 27
 
 -- the fifteen tables, in the order in which they are made
 abbrev pub tables : List Table
-tables = gpkg_spatial_ref_sys ∷ gpkg_contents ∷ gpkg_tile_matrix_set ∷ gpkg_tile_matrix ∷ gpkg_extensions ∷ gpkgext_relations ∷ mm_profile ∷ mm_tables ∷ mm_tiles ∷ mm_rows ∷ mm_media ∷ mm_map ∷ mm_editions ∷ mm_pieces ∷ mm_blobs ∷ []
+tables = gpkg_spatial_ref_sys ∷ gpkg_contents ∷ gpkg_tile_matrix_set ∷ gpkg_tile_matrix ∷ gpkg_extensions
+    ∷ gpkgext_relations ∷ mm_profile ∷ mm_tables ∷ mm_tiles ∷ mm_rows ∷ mm_media ∷ mm_map ∷ mm_editions ∷ mm_pieces
+    ∷ mm_blobs ∷ []
 
 -- the index by which a blob is found from its digest
 abbrev pub mm_blobs_digest : Index
@@ -281,7 +311,10 @@ mm_map_related = index_on (codes "mm_map_related") 32 mm_map (1 ∷ 3 ∷ [])
 
 -- those that the tables' keys have, table by table, and then the five that texts make
 abbrev pub indexes : List Index
-indexes = unique gpkg_contents 0 2 ∷ unique gpkg_contents 1 3 ∷ unique gpkg_tile_matrix_set 0 5 ∷ unique gpkg_tile_matrix 0 7 ∷ unique gpkg_extensions 0 9 ∷ unique gpkgext_relations 0 11 ∷ unique mm_tables 0 14 ∷ unique mm_tiles 0 16 ∷ unique mm_rows 0 18 ∷ unique mm_media 0 20 ∷ unique mm_map 0 22 ∷ unique mm_editions 0 24 ∷ unique mm_pieces 0 26 ∷ mm_blobs_digest ∷ mm_tiles_blob ∷ mm_media_blob ∷ mm_pieces_blob ∷ mm_map_related ∷ []
+indexes = unique gpkg_contents 0 2 ∷ unique gpkg_contents 1 3 ∷ unique gpkg_tile_matrix_set 0 5
+    ∷ unique gpkg_tile_matrix 0 7 ∷ unique gpkg_extensions 0 9 ∷ unique gpkgext_relations 0 11 ∷ unique mm_tables 0 14
+    ∷ unique mm_tiles 0 16 ∷ unique mm_rows 0 18 ∷ unique mm_media 0 20 ∷ unique mm_map 0 22 ∷ unique mm_editions 0 24
+    ∷ unique mm_pieces 0 26 ∷ mm_blobs_digest ∷ mm_tiles_blob ∷ mm_media_blob ∷ mm_pieces_blob ∷ mm_map_related ∷ []
 
 -- the schema of a package's file, under profile 1 as under profile 2
 abbrev pub schema : Schema

@@ -21,13 +21,16 @@ use Rattle.std.proofs.Common.{ℤ}
 
 -- what is shown says the rule
 abbrev pub Says : Row → Join → List Term → List Term → (Row → Type 0) → (Known Rule : Package → Type 0) → Type 0
-Says params from terms project good Known Rule = (version : ℤ) (db : Trees) (p : Package) → StandsFor version db p → Known p → AllShown db params from terms project good ↔ Rule p
+Says params from terms project good Known Rule = (version : ℤ) (db : Trees) (p : Package) → StandsFor version db p
+    → Known p → AllShown db params from terms project good ↔ Rule p
 
 module _ (sql : List ℕ) (params : Row) (good : Row → Type 0) (from : Join) (terms project : List Term)
     (order : List (Term × Key)) (names : List (List ℕ)) (it : IsQuery schema sql from terms project order names)
     (quiet : IsQuiet sql)
-    (Known Rule : Package → Type 0) (says : Says params from terms project good Known Rule) (profile : Profile) (old new : State) where
-  told : (result : Result Bool Fault) → TellsAll sql params good old new result → HasCleanDisk new → (p : Package) → IsSeenAs profile old p → Known p
+    (Known Rule : Package → Type 0) (says : Says params from terms project good Known Rule) (profile : Profile)
+    (old new : State) where
+  told : (result : Result Bool Fault) → TellsAll sql params good old new result → HasCleanDisk new → (p : Package)
+      → IsSeenAs profile old p → Known p
       → IfOk result (λ b. IsTrue b ↔ Rule p)
   told (Err fault) h clean p s known = tt
   told (Ok b) h clean p s known =
@@ -41,7 +44,8 @@ module _ (sql : List ℕ) (params : Row) (good : Row → Type 0) (from : Join) (
   still_open (Ok b) same = same.0.is_open
   still_open (Err fault) same = tt
 
-  pub checked : (result : Result Bool Fault) → TellsAll sql params good old new result → IsCheck profile old new Known Rule result
+  pub checked : (result : Result Bool Fault) → TellsAll sql params good old new result
+      → IsCheck profile old new Known Rule result
   checked result h =
       let asks = only_asks sql quiet old.now.schema in
       record {
@@ -49,7 +53,8 @@ module _ (sql : List ℕ) (params : Row) (good : Row → Type 0) (from : Join) (
         survives = h.survives asks;
         is_open = λ clean. still_open result (h.same clean asks);
         seen = λ clean p. seen_still profile old new p (h.rests clean asks);
-        settled = λ clean p. settled_still profile old new p (h.survives asks) clean (seen_still profile old new p (h.rests clean asks));
+        settled = λ clean p. settled_still profile old new p (h.survives asks) clean
+            (seen_still profile old new p (h.rests clean asks));
         says = told result h;
         faults = h.faults;
       }

@@ -1,5 +1,6 @@
 -- Rows that are counted, as the entries of a map.
-use Rattle.std.proofs.Common.{◌≡◌, ℕ, suc, true, List, [], ◌∷◌, length, drop, filter, Some, inl, refl, sym, ap, subst, ◌∙◌}
+use Rattle.std.proofs.Common.{◌≡◌, ℕ, suc, true, List, [], ◌∷◌, length, drop, filter, Some, inl, refl, sym, ap, subst}
+use Rattle.std.proofs.Common.{◌∙◌}
 use Rattle.std.specs.FinMap.{FinMap, get}
 use Rattle.sqlite.specs.Order.{Row}
 use Rattle.sqlite.specs.declared.types.Value.{Value}
@@ -31,10 +32,12 @@ pub counted_in : (rows : List Row) (m : FinMap extension_cmp ℕ) → Counts row
     → (n : ℕ) × (get m (extension_of r) ≡ Some (suc n)) × (length (filter (is_extension (extension_of r)) rows) ≡ suc n)
 counted_in rows m h r there =
     let e = extension_of r in
-    let it = some_length (filter (is_extension e) rows) r (has_kept (is_extension e) rows r there (same_itself extension_keys e)) in
+    let it = some_length (filter (is_extension e) rows) r
+    (has_kept (is_extension e) rows r there (same_itself extension_keys e)) in
     (it.0, h.counted e ∙ ap as_count it.1, it.1)
 
-pub counts_cover : (rows : List Row) (m : FinMap extension_cmp ℕ) → Counts rows m → Covers after_rowid (λ e (n : ℕ). extension_row e) rows m
+pub counts_cover : (rows : List Row) (m : FinMap extension_cmp ℕ) → Counts rows m
+    → Covers after_rowid (λ e (n : ℕ). extension_row e) rows m
 counts_cover rows m h = record {
   sound = λ r there.
       let e = extension_of r in

@@ -20,7 +20,8 @@ either_holds false A B a b = b
 pub none_below : (family : ℕ → Package → Type 0) (p : Package) → HoldsBelow family 1 p
 none_below family p = λ j from to. absurd (omega (arith, from, to))
 
-pub one_more : (family : ℕ → Package → Type 0) (p : Package) (k : ℕ) → HoldsBelow family k p → family k p → HoldsBelow family (k + 1) p
+pub one_more : (family : ℕ → Package → Type 0) (p : Package) (k : ℕ) → HoldsBelow family k p → family k p
+    → HoldsBelow family (k + 1) p
 one_more family p k below here = λ j from to. elim (cases_Bool (j == k)) [
   | inl same ↦ subst (λ n. family n p) (let e : k ≡ j = (let f = same in grind (arith, nat_tests)) in e) here
   | inr other ↦ below j from (let f = other in grind (arith, nat_tests))

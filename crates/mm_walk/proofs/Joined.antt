@@ -1,5 +1,7 @@
--- What holds of each row of a table, and of each row that a LEFT JOIN finds, in the words of the map that the table holds.
-use Rattle.std.proofs.Common.{◌≡◌, ◌↔◌, ◌⊎◌, inl, inr, Bool, true, List, [], ◌∷◌, filter, drop, Option, Some, None, refl, sym, ap, subst, ◌∙◌}
+-- What holds of each row of a table, and of each row that a LEFT JOIN finds, in the words of the map that the table
+-- holds.
+use Rattle.std.proofs.Common.{◌≡◌, ◌↔◌, ◌⊎◌, inl, inr, Bool, true, List, [], ◌∷◌, filter, drop, Option, Some, None}
+use Rattle.std.proofs.Common.{refl, sym, ap, subst, ◌∙◌}
 use Rattle.std.specs.Prelude.{⊤}
 use Rattle.std.specs.declared.cmp.Ordering.{Ordering}
 use Rattle.std.specs.FinMap.{FinMap, get}
@@ -45,7 +47,8 @@ abbrev pub after_id : Value × Value → Row → Row
 after_id x r = x.0 ∷ x.1 ∷ r
 
 -- each row stands for an entry, and each entry for a row
-pub record Covers {X K V : Type 0} {R : K → K → Ordering} (full : X → Row → Row) (row_of : K → V → Row) (rows : List Row) (m : FinMap R V) : Type 0 where
+pub record Covers {X K V : Type 0} {R : K → K → Ordering} (full : X → Row → Row) (row_of : K → V → Row)
+    (rows : List Row) (m : FinMap R V) : Type 0 where
   pub sound : (r : Row) → Has rows r → (k : K) × (v : V) × (x : X) × (get m k ≡ Some v) × (r ≡ full x (row_of k v))
   pub complete : (k : K) (v : V) → get m k ≡ Some v → (x : X) × Has rows (full x (row_of k v))
 
@@ -93,7 +96,8 @@ module _ {K V : Type 0} {R : K → K → Ordering} {row_of : K → V → Row} {r
           let it = hidden_two r f.0 f.1 (e ∙ f.2) in
           (it.0, it.1 ∙ ap (λ l. it.0.0 ∷ it.0.1 ∷ l) (sym f.2))
 
-module _ {X K V : Type 0} {R : K → K → Ordering} (full : X → Row → Row) (row_of : K → V → Row) (rows : List Row) (m : FinMap R V) (h : Covers full row_of rows m) where
+module _ {X K V : Type 0} {R : K → K → Ordering} (full : X → Row → Row) (row_of : K → V → Row) (rows : List Row)
+    (m : FinMap R V) (h : Covers full row_of rows m) where
   -- of each row, and of each entry
   pub each_row : (Q : Row → Type 0) (P : K → V → Type 0) → ((k : K) (v : V) (x : X) → Q (full x (row_of k v)) ↔ P k v)
       → ((r : Row) → Has rows r → Q r) ↔ Each m P
@@ -116,7 +120,8 @@ module _ {X K V : Type 0} {R : K → K → Ordering} (full : X → Row → Row) 
         (e.1, e.2, ap (get m) (sym is) ∙ e.3, e.4 ∙ ap (λ l. full e.2 (row_of l e.1)) is)
 
     none_found : get m k ≡ None → filter test rows ≡ []
-    none_found none = nothing_has (filter test rows) (λ r there. let f = found r there in let e : Some f.0 ≡ None = sym f.2 ∙ none in cc)
+    none_found none = nothing_has (filter test rows) (λ r there. let f = found r there in let e : Some f.0 ≡ None =
+        sym f.2 ∙ none in cc)
 
     entry_found : (v : V) → get m k ≡ Some v → (x : X) × Has (filter test rows) (full x (row_of k v))
     entry_found v is =
@@ -124,17 +129,24 @@ module _ {X K V : Type 0} {R : K → K → Ordering} (full : X → Row → Row) 
         (e.0, has_kept test rows (full e.0 (row_of k v)) e.1 ((finds k v e.0).1 refl))
 
     -- of each row that the join gives, and of what the map has at the key
-    pub joined : (Q : Row → Type 0) (P : Option V → Type 0) → (Q [] ↔ P None) → ((v : V) (x : X) → Q (full x (row_of k v)) ↔ P (Some v))
+    pub joined : (Q : Row → Type 0) (P : Option V → Type 0) → (Q [] ↔ P None)
+        → ((v : V) (x : X) → Q (full x (row_of k v)) ↔ P (Some v))
         → ((r : Row) → Has (or_nulls (filter test rows)) r → Q r) ↔ P (get m k)
-    joined Q P nothing something = (λ all. to (get m k) refl all, λ p r there. from p r (from_nulls (filter test rows) r there))
+    joined Q P nothing something = (
+      λ all. to (get m k) refl all,
+      λ p r there. from p r
+          (from_nulls (filter test rows) r there),
+    )
       where
         to : (o : Option V) → get m k ≡ o → ((r : Row) → Has (or_nulls (filter test rows)) r → Q r) → P (get m k)
         to None is all = subst P (sym is) (nothing.0 (all [] (of_nothing (filter test rows) (none_found is))))
-        to (Some v) is all = let e = entry_found v is in subst P (sym is) ((something v e.0).0 (all (full e.0 (row_of k v)) (of_some (filter test rows) _ e.1)))
+        to (Some v) is all = let e = entry_found v is in subst P (sym is)
+            ((something v e.0).0 (all (full e.0 (row_of k v)) (of_some (filter test rows) _ e.1)))
 
         at_none : (o : Option V) → get m k ≡ o → filter test rows ≡ [] → P (get m k) → Q []
         at_none None is none p = nothing.1 (subst P is p)
-        at_none (Some v) is none p = let e = entry_found v is in absurd (subst (λ l. Has l (full e.0 (row_of k v))) none e.1)
+        at_none (Some v) is none p = let e = entry_found v is in absurd
+            (subst (λ l. Has l (full e.0 (row_of k v))) none e.1)
 
         from : P (get m k) → (r : Row) → (Has (filter test rows) r ⊎ ((filter test rows ≡ []) × (r ≡ []))) → Q r
         from p r (inl there) = let f = found r there in subst Q (sym f.3) ((something f.0 f.1).1 (subst P f.2 p))

@@ -21,7 +21,11 @@ use Rattle.mm_definitions.proofs.KeyLaws.{texts, numbers}
 use Rattle.mm_walk.specs.RowTests.{OnTrue}
 
 pub tie : {K : Type 0} {R : K → K → Ordering} → IsKeyOrder R → (a b : K) → (is_eq (R a b) ≡ true) ↔ (a ≡ b)
-tie {K} {R} o a b = (λ e. o.exact a b ((Equal-is (R a b)).0 e), λ e. ap is_eq (ap (λ x. R x b) e ∙ tied_itself o.total b))
+tie {K} {R} o a b = (
+  λ e. o.exact a b ((Equal-is (R a b)).0 e),
+  λ e. ap is_eq
+      (ap (λ x. R x b) e ∙ tied_itself o.total b),
+)
 
 -- SQL's equality of two texts, or of two integers
 pub texts_are : (a b : Text) → (equal Binary (Words a) (Words b) ≡ true) ↔ (a ≡ b)
@@ -37,25 +41,35 @@ name_is a b = let t = texts_are a b in (λ e. t.0 (and_parts _ _ e).0, λ e. and
 pub number_is : (a b : ℤ) → ((equal Binary (Int a) (Int b) && true) ≡ true) ↔ (a ≡ b)
 number_is a b = let t = ints_are a b in (λ e. t.0 (and_parts _ _ e).0, λ e. and_from _ _ (t.1 e) refl)
 
-pub both_are : (a b : Text) (x y : ℤ) → ((equal Binary (Words a) (Words b) && (equal Binary (Int x) (Int y) && true)) ≡ true) ↔ ((a ≡ b) × (x ≡ y))
+pub both_are : (a b : Text) (x y : ℤ)
+    → ((equal Binary (Words a) (Words b) && (equal Binary (Int x) (Int y) && true)) ≡ true) ↔ ((a ≡ b) × (x ≡ y))
 both_are a b x y =
     let t = texts_are a b in
     let n = ints_are x y in (
-      λ e. let p = and_parts (equal Binary (Words a) (Words b)) (equal Binary (Int x) (Int y) && true) e in (t.0 p.0, n.0 (and_parts (equal Binary (Int x) (Int y)) true p.1).0),
+      λ e. let p = and_parts (equal Binary (Words a) (Words b)) (equal Binary (Int x) (Int y) && true) e in
+          (t.0 p.0, n.0 (and_parts (equal Binary (Int x) (Int y)) true p.1).0),
       λ e. and_from _ _ (t.1 e.0) (and_from _ _ (n.1 e.1) refl),
     )
 
 pub level_is : (l : Level) (table : Text) (zoom : ℤ)
-    → ((equal Binary (Words l.table) (Words table) && (equal Binary (Int l.zoom) (Int zoom) && true)) ≡ true) ↔ (l ≡ level table zoom)
-level_is l table zoom = let b = both_are l.table table l.zoom zoom in (λ e. let p = b.0 e in ap₂ level p.0 p.1, λ e. b.1 (ap (λ (k : Level). k.table) e, ap (λ (k : Level). k.zoom) e))
+    → ((equal Binary (Words l.table) (Words table) && (equal Binary (Int l.zoom) (Int zoom) && true)) ≡ true)
+    ↔ (l ≡ level table zoom)
+level_is l table zoom = let b = both_are l.table table l.zoom zoom in
+    (λ e. let p = b.0 e in ap₂ level p.0 p.1, λ e. b.1 (ap (λ (k : Level). k.table) e, ap (λ (k : Level). k.zoom) e))
 
 pub item_is : (l : Item) (table : Text) (id : ℤ)
-    → ((equal Binary (Words l.table) (Words table) && (equal Binary (Int l.id) (Int id) && true)) ≡ true) ↔ (l ≡ item table id)
-item_is l table id = let b = both_are l.table table l.id id in (λ e. let p = b.0 e in ap₂ item p.0 p.1, λ e. b.1 (ap (λ (k : Item). k.table) e, ap (λ (k : Item). k.id) e))
+    → ((equal Binary (Words l.table) (Words table) && (equal Binary (Int l.id) (Int id) && true)) ≡ true)
+    ↔ (l ≡ item table id)
+item_is l table id = let b = both_are l.table table l.id id in
+    (λ e. let p = b.0 e in ap₂ item p.0 p.1, λ e. b.1 (ap (λ (k : Item). k.table) e, ap (λ (k : Item). k.id) e))
 
 pub less_is : (a b : ℤ) → (is_true (binary (Compare Lt Binary) (Int a) (Int b)) ≡ true) ↔ (a <ℤ b)
 unfolding binary
-less_is a b = (λ e. below a b (int_cmp a b) refl (ap is_lt (sym (value_cmp-Int a b)) ∙ sym (as_truth _) ∙ e), λ l. as_truth _ ∙ ap is_lt (value_cmp-Int a b ∙ sym (int_cmp_is a b Less l)))
+less_is a b = (
+  λ e. below a b (int_cmp a b) refl (ap is_lt (sym (value_cmp-Int a b)) ∙ sym (as_truth _) ∙ e),
+  λ l.
+      as_truth _ ∙ ap is_lt (value_cmp-Int a b ∙ sym (int_cmp_is a b Less l)),
+)
   where
     below : (a b : ℤ) (o : Ordering) → o ≡ int_cmp a b → is_lt o ≡ true → a <ℤ b
     below a b Less is h = int_ranked a b Less is

@@ -1,5 +1,6 @@
 -- What holds of each row whose entry names a blob, in the words of the entries that have bytes.
-use Rattle.std.proofs.Common.{◌≡◌, ◌↔◌, inl, inr, ℕ, ℤ, true, false, ◌&&◌, List, [], ◌∷◌, filter, Option, Some, None, option_map, refl, sym, ap, subst, ◌∙◌}
+use Rattle.std.proofs.Common.{◌≡◌, ◌↔◌, inl, inr, ℕ, ℤ, true, false, ◌&&◌, List, [], ◌∷◌, filter, Option, Some, None}
+use Rattle.std.proofs.Common.{option_map, refl, sym, ap, subst, ◌∙◌}
 use Rattle.std.specs.declared.cmp.Ordering.{Ordering}
 use Rattle.std.specs.FinMap.{FinMap, get}
 use Rattle.sqlite.specs.Order.{Row, column}
@@ -22,11 +23,13 @@ use Rattle.mm_walk.proofs.Keys.{number_is, same}
 pub also : {A B C : Type 0} → A ↔ B → B ↔ C → A ↔ C
 also one two = (λ a. two.0 (one.0 a), λ c. one.1 (two.1 c))
 
-module _ {X K I V : Type 0} {R : K → K → Ordering} (id_of : I → Option ℤ) (filled : I → List ℕ → V) (shelf : Shelf) (ids : FinMap R I) (m : FinMap R V) (tells : Tells id_of filled shelf ids m)
+module _ {X K I V : Type 0} {R : K → K → Ordering} (id_of : I → Option ℤ) (filled : I → List ℕ → V) (shelf : Shelf)
+    (ids : FinMap R I) (m : FinMap R V) (tells : Tells id_of filled shelf ids m)
     (full : X → Row → Row) (row_of : K → I → Row) (rows : List Row) (h : Covers full row_of rows ids) where
   -- of each row, and of each entry with the bytes of the blob that it names
   pub each_named : (Q : Row → Type 0) (P : K → V → Type 0)
-      → ((k : K) (i : I) (x : X) (bytes : List ℕ) → get m k ≡ Some (filled i bytes) → StandsAt shelf (id_of i) bytes → Q (full x (row_of k i)) ↔ P k (filled i bytes))
+      → ((k : K) (i : I) (x : X) (bytes : List ℕ) → get m k ≡ Some (filled i bytes) → StandsAt shelf (id_of i) bytes
+      → Q (full x (row_of k i)) ↔ P k (filled i bytes))
       → ((r : Row) → lists.Has rows r → Q r) ↔ Each m P
   each_named Q P alike = (
     λ all k v is.
@@ -77,15 +80,18 @@ JoinsBlob rows id r = lists.Has (or_nulls (filter (λ r. equal Binary (column r 
 module _ (rows : List Row) (shelf : Shelf) (h : Holds whole blob_row rows shelf) (Q : Value → Type 0) where
   of_one : (id : ℤ) (bytes : List ℕ) → bytes_at shelf id ≡ Some bytes → (o : Option Blob) → get shelf id ≡ o
       → ((r : Row) → JoinsBlob rows (Int id) r → Q (column r 3)) ↔ Q (Bytes bytes)
-  of_one id bytes stands None none = absurd (let e : None ≡ Some bytes = sym (ap (option_map (λ (b : Blob). b.bytes)) none) ∙ stands in cc)
+  of_one id bytes stands None none =
+      absurd (let e : None ≡ Some bytes = sym (ap (option_map (λ (b : Blob). b.bytes)) none) ∙ stands in cc)
   of_one id bytes stands (Some b) is =
       let all = joined as_whole blob_row rows shelf (covered_whole h)
       (λ r. equal Binary (column r 0) (Int id) && true) id (λ l c x. number_is l id) (λ r. Q (column r 3))
       (λ o. Q (data_in o)) same (λ c x. same) in
       let bytes_are : b.bytes ≡ bytes = same_some (sym (ap (option_map (λ (c : Blob). c.bytes)) is) ∙ stands) in
-      subst (λ v. ((r : Row) → JoinsBlob rows (Int id) r → Q (column r 3)) ↔ Q v) (ap data_in is ∙ ap Bytes bytes_are) all
+      subst (λ v. ((r : Row) → JoinsBlob rows (Int id) r → Q (column r 3)) ↔ Q v) (ap data_in is ∙ ap Bytes bytes_are)
+      all
 
-  pub joined_blob : (o : Option ℤ) (bytes : List ℕ) → StandsAt shelf o bytes → ((r : Row) → JoinsBlob rows (maybe o) r → Q (column r 3)) ↔ Q (data_of o bytes)
+  pub joined_blob : (o : Option ℤ) (bytes : List ℕ) → StandsAt shelf o bytes
+      → ((r : Row) → JoinsBlob rows (maybe o) r → Q (column r 3)) ↔ Q (data_of o bytes)
   joined_blob None bytes stands = (
     λ all. all [] (subst (λ found. lists.Has (or_nulls found) []) (sym (none_kept rows)) (inl refl)),
     λ q r there. subst Q (sym (nothing r (subst (λ found. lists.Has (or_nulls found) r) (none_kept rows) there))) q,

@@ -10,7 +10,8 @@ use Rattle.mm_store.specs.Seen.{IsSeenAs}
 use Rattle.mm_walk.specs.Walk.{Rests, Ends}
 
 -- a connection that rests reads as before
-pub seen_still : (profile : Profile) (old new : State) (p : Package) → Rests old new → IsSeenAs profile old p → IsSeenAs profile new p
+pub seen_still : (profile : Profile) (old new : State) (p : Package) → Rests old new → IsSeenAs profile old p
+    → IsSeenAs profile new p
 seen_still profile old new p (inl same) it = record {
   mode = same.0.mode ∙ it.mode;
   back = λ up. subst (λ d. ReadsAs profile.version d p) (sym same.0.committed_is) (it.back same.0.was_open);

@@ -31,18 +31,25 @@ module _ (sql : List ℕ) (params : Row) (good : Row → Type 0) (schema : Schem
   tells_all : (new : State) (rows : List Row) → Shown sql params old new rows → AllByRecursion good rows
       → IsTrue true ↔ AllShown old.now.trees params from terms project good
   tells_all new rows shown all =
-      let read = reads_as sql params old new schema has (Select (alone (query from terms project order no_limit)) names) it.compiled it.plain it.unlisted rows shown in
-      (λ _. each_good from terms project order (overlay old.now.trees []) params rows (read.answer Null) good all, λ _. refl)
+      let read = reads_as sql params old new schema has (Select (alone (query from terms project order no_limit)) names)
+      it.compiled it.plain it.unlisted rows shown in (
+        λ _. each_good from terms project order (overlay old.now.trees []) params rows (read.answer Null) good all,
+        λ _.
+            refl,
+      )
 
   -- a row of an answer has not passed
   tells_stop : (rows : List Row) (row : Row) → Begins sql params old (rows ++ row ∷ []) → (good row → ⊥)
       → IsTrue false ↔ AllShown old.now.trees params from terms project good
   tells_stop rows row begins bad =
-      let start = begins_as sql params old old schema has (Select (alone (query from terms project order no_limit)) names) it.compiled it.plain it.unlisted (rows ++ row ∷ []) begins in
+      let start = begins_as sql params old old schema has
+      (Select (alone (query from terms project order no_limit)) names) it.compiled it.plain it.unlisted
+      (rows ++ row ∷ []) begins in
       let rest = start.1 in (
         λ e. absurd (let f : false ≡ true = e in cc),
         λ each. absurd (
-            let all = all_good from terms project order (overlay old.now.trees []) params ((rows ++ row ∷ []) ++ rest.0) (rest.1 Null) good each in
+            let all = all_good from terms project order (overlay old.now.trees []) params ((rows ++ row ∷ []) ++ rest.0)
+            (rest.1 Null) good each in
             let front = (all_split good (rows ++ row ∷ []) rest.0 all).0 in
             bad (all_split good rows (row ∷ []) front).1.0),
       )
@@ -80,7 +87,8 @@ module _ {V : Type 0} (takes : V → Row → V → Result Bool Fault → Type 0)
     rests_of (Err fault) (inl h) = inl h.same
     rests_of (Err fault) (inr h) = h.rests
 
-    fault_of : (r : Result Bool Fault) → IfErr r (λ fault. IsStoreFault fault ⊎ ((before : V) × (row : Row) × takes before row w (Err fault)))
+    fault_of : (r : Result Bool Fault)
+        → IfErr r (λ fault. IsStoreFault fault ⊎ ((before : V) × (row : Row) × takes before row w (Err fault)))
         → IfErr r IsStoreFault
     fault_of (Ok b) h = tt
     fault_of (Err fault) (inl h) = h

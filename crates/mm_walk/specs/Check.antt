@@ -13,10 +13,11 @@ use Rattle.sqlite.specs.Held.{Held, state}
 use Rattle.sqlite.specs.Store.{Ghosts}
 use Rattle.mm_definitions.specs.Rules.{Limits}
 
--- It opens no transaction, writes nothing, and leaves the connection reading as before, and settled where it was. It tells whether the rule holds
--- of the package that the connection reads as, which is known to meet `Known`; where it does, the store is open. Its faults are the store's,
--- and none is a rule's.
-pub record IsCheck (profile : Profile) (old new : State) (Known Rule : Package → Type 0) (result : Result Bool Fault) : Type 0 where
+-- It opens no transaction, writes nothing, and leaves the connection reading as before, and settled where it was. It
+-- tells whether the rule holds of the package that the connection reads as, which is known to meet `Known`; where it
+-- does, the store is open. Its faults are the store's, and none is a rule's.
+pub record IsCheck (profile : Profile) (old new : State) (Known Rule : Package → Type 0)
+    (result : Result Bool Fault) : Type 0 where
   pub mode : old.in_transaction ≡ false → new.in_transaction ≡ false
   pub survives : CommitsNothing old new
   pub is_open : HasCleanDisk new → OnOk result (IsTrue new.is_open)

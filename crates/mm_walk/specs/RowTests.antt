@@ -21,7 +21,8 @@ use Rattle.mm_store.specs.Statements.{CommitsNothing}
 use Rattle.mm_walk.specs.Walk.{OnlyAsks, Rests}
 
 -- The text is a query of this FROM, WHERE, list of columns and ORDER BY, with no GROUP BY, DISTINCT, LIMIT or OFFSET.
-pub record IsQuery (schema : Schema) (sql : List ℕ) (from : Join) (terms project : List Term) (order : List (Term × Key)) (names : List (List ℕ)) : Type 0 where
+pub record IsQuery (schema : Schema) (sql : List ℕ) (from : Join) (terms project : List Term)
+    (order : List (Term × Key)) (names : List (List ℕ)) : Type 0 where
   pub compiled : command_of (understood schema sql) ≡ Select (alone (query from terms project order no_limit)) names
   pub plain : IsPlain (understood schema sql)
   pub unlisted : reads_listing schema sql ≡ false
@@ -37,14 +38,18 @@ EachMatch db terms end env P = OnTrue (list_all (holds env) terms) (P env)
 EachMatch db terms (inner t more) env P = (r : Row) → Has (db t) r → EachMatch db terms more (env ++ r ∷ []) P
 EachMatch db terms (left t on more) env P = (r : Row) → Has
     (or_nulls (filter (λ r. list_all (holds (env ++ r ∷ [])) on) (db t))) r → EachMatch db terms more (env ++ r ∷ []) P
-EachMatch db terms (counted most from test more) env P = AllByRecursion P (matches db terms (counted most from test more) env)
+EachMatch db terms (counted most from test more) env P =
+    AllByRecursion P (matches db terms (counted most from test more) env)
 EachMatch db terms (made m more) env P = AllByRecursion P (matches db terms (made m more) env)
-EachMatch db terms (folded from test all more) env P = AllByRecursion P (matches db terms (folded from test all more) env)
-EachMatch db terms (first from test order shown more) env P = AllByRecursion P (matches db terms (first from test order shown more) env)
+EachMatch db terms (folded from test all more) env P =
+    AllByRecursion P (matches db terms (folded from test all more) env)
+EachMatch db terms (first from test order shown more) env P =
+    AllByRecursion P (matches db terms (first from test order shown more) env)
 
 -- each row that the query shows of the database is good
 abbrev pub AllShown : Trees → Row → Join → List Term → List Term → (Row → Type 0) → Type 0
-AllShown db params from terms project good = EachMatch (overlay db []) terms from (params ∷ []) (λ env. good (eval_all project env))
+AllShown db params from terms project good = EachMatch (overlay db []) terms from (params ∷ [])
+    (λ env. good (eval_all project env))
 
 -- what a test tells of a row
 abbrev pub Tells : (Row → Type 0) → Row → Result Bool Fault → Type 0
@@ -56,14 +61,16 @@ Notes good noted old new row result = (b : Bool) × (result ≡ Ok b) × (IsTrue
     × (IsTrue b → noted new row) × ((other : Row) → noted old other → noted new other)
 
 -- It commits nothing, and tells whether each row is good.
-pub record TellsAll (sql : List ℕ) (params : Row) (good : Row → Type 0) (old new : State) (result : Result Bool Fault) : Type 0 where
+pub record TellsAll (sql : List ℕ) (params : Row) (good : Row → Type 0) (old new : State)
+    (result : Result Bool Fault) : Type 0 where
   pub mode : old.in_transaction ≡ false → new.in_transaction ≡ false
   pub survives : OnlyAsks old.now.schema sql → CommitsNothing old new
   pub rests : HasCleanDisk new → OnlyAsks old.now.schema sql → Rests old new
   pub same : HasCleanDisk new → OnlyAsks old.now.schema sql → OnOk result (IsUnchanged old new)
   pub tells : HasCleanDisk new → (schema : Schema) → old.now.schema ≡ schema
       → (from : Join) (terms project : List Term) (order : List (Term × Key)) (names : List (List ℕ))
-      → IsQuery schema sql from terms project order names → IfOk result (λ all. IsTrue all ↔ AllShown old.now.trees params from terms project good)
+      → IsQuery schema sql from terms project order names
+      → IfOk result (λ all. IsTrue all ↔ AllShown old.now.trees params from terms project good)
   pub faults : IfErr result IsStoreFault
 
 -- whether there is something, where no fault was met

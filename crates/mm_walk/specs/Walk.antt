@@ -29,7 +29,8 @@ module _ {V : Type 0} (takes : V → Row → V → Result Bool Fault → Type 0)
 
   -- some rows were taken, and it may be that the last of them ended the walk so
   abbrev pub Visits : V → V → Result Bool Fault → Type 0
-  Visits v w result = (rows : List Row) × (TakesRows v rows w ⊎ ((before : V) × (row : Row) × TakesRows v rows before × takes before row w result))
+  Visits v w result = (rows : List Row)
+      × (TakesRows v rows w ⊎ ((before : V) × (row : Row) × TakesRows v rows before × takes before row w result))
 
   module _ (sql : List ℕ) (params : Row) (old new : State) (v w : V) where
     -- it took all rows of an answer
@@ -69,4 +70,5 @@ module _ {V : Type 0} (takes : V → Row → V → Result Bool Fault → Type 0)
       pub survives : OnlyAsks old.now.schema sql → CommitsNothing old new
       pub walked : HasCleanDisk new → OnlyAsks old.now.schema sql → Ends result
       pub visits : Visits v w result
-      pub faults : IfErr result (λ fault. IsStoreFault fault ⊎ ((before : V) × (row : Row) × takes before row w (Err fault)))
+      pub faults : IfErr result (λ fault. IsStoreFault fault
+          ⊎ ((before : V) × (row : Row) × takes before row w (Err fault)))

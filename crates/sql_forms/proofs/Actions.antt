@@ -35,7 +35,8 @@ use Rattle.sql_forms.proofs.Tables.{rows_in, tables_from}
 -- ---- rows that are taken by their rowids
 
 pub filter_left : (p : Row → Bool) (ids : List ℤ) (rows : List Row)
-    → ((id : ℤ) (r : Row) → Has ids id → Has rows r → has_rowid id r ≡ true → p r ≡ false) → filter p (without_all rows ids) ≡ filter p rows
+    → ((id : ℤ) (r : Row) → Has ids id → Has rows r → has_rowid id r ≡ true → p r ≡ false)
+    → filter p (without_all rows ids) ≡ filter p rows
 filter_left p [] rows so = refl
 filter_left p (id ∷ ids) rows so =
     filter_left p ids (without_rowid id rows) (λ k r h there is. so k r (inr h) (has_filtered _ rows r there).0 is)
@@ -46,10 +47,15 @@ rise_left [] rows up = up
 rise_left (id ∷ ids) rows up = rise_left ids (without_rowid id rows) (ascending_filter _ _ rows up)
 
 rows_left : (ids : List ℤ) (rows : List Row) → AreRows rows → AreRows (without_all rows ids)
-rows_left ids rows up = record { rise = rise_left ids rows up.rise; keyed = all_from _ (without_all rows ids) (λ r h. all_has _ rows r up.keyed (without_all_has ids rows r h)) }
+rows_left ids rows up = record {
+  rise = rise_left ids rows up.rise;
+  keyed = all_from _ (without_all rows ids)
+      (λ r h. all_has _ rows r up.keyed (without_all_has ids rows r h));
+}
 
 -- none of the rowids is left
-pub left_lacks : (ids : List ℤ) (rows : List Row) (r : Row) (id : ℤ) → Has (without_all rows ids) r → Has ids id → has_rowid id r ≡ true → ⊥
+pub left_lacks : (ids : List ℤ) (rows : List Row) (r : Row) (id : ℤ) → Has (without_all rows ids) r → Has ids id
+    → has_rowid id r ≡ true → ⊥
 left_lacks [] rows r id there h is = h
 left_lacks (k ∷ ids) rows r id there (inl same) is = let out =
     (has_filtered _ rows r (without_all_has ids (without_rowid k rows) r there)).1 in
@@ -59,7 +65,8 @@ left_lacks (k ∷ ids) rows r id there (inr more) is = left_lacks ids (without_r
 pub own_rowid : (r : Row) (id : ℤ) → rowid r ≡ Int id → has_rowid id r ≡ true
 own_rowid r id e = rw (e, tied_itself value_cmp_total (Int id))
 
-pub same_row : (rows : List Row) (id : ℤ) (a b : Row) → IsTable rows → Has rows a → Has rows b → rowid a ≡ Int id → has_rowid id b ≡ true → b ≡ a
+pub same_row : (rows : List Row) (id : ℤ) (a b : Row) → IsTable rows → Has rows a → Has rows b → rowid a ≡ Int id
+    → has_rowid id b ≡ true → b ≡ a
 same_row rows id a b up h k keyed is = tied_same rows b a up k h (rw keyed ((Equal-is _).0 is))
 
 -- ---- an edit that puts no row
@@ -73,7 +80,8 @@ module _ (schema : Schema) (keys : Keys) (keep : Keep) where
   }
 
   pub applied : (db next : Trees) (edit : Edit) → edit.news ≡ []
-      → ((id : ℤ) (r : Row) → Has edit.gone id → Has (db edit.table.tree) r → has_rowid id r ≡ true → keep edit.table.tree r ≡ false)
+      → ((id : ℤ) (r : Row) → Has edit.gone id → Has (db edit.table.tree) r → has_rowid id r ≡ true
+      → keep edit.table.tree r ≡ false)
       → Has schema.tables edit.table → Applies schema keys db edit next → Shrinks schema keep db next
   applied db next edit none out listed h =
       let rows : next edit.table.tree ≡ without_all (db edit.table.tree) edit.gone = rw none at h.rows in
@@ -99,7 +107,9 @@ unless A B true e h = absurd (cc)
 unless A B false e h = h
 
 abbrev IsDue : Schema → Keep → Work → Type 0
-IsDue schema keep w = Has schema.tables w.child × ((w.deed ≡ Refuse) ⊎ ((w.deed ≡ Delete) × ((row : Row) → list_any (is_child_of w row) w.moves ≡ true → keep w.child.tree row ≡ false)))
+IsDue schema keep w = Has schema.tables w.child
+    × ((w.deed ≡ Refuse) ⊎ ((w.deed ≡ Delete)
+    × ((row : Row) → list_any (is_child_of w row) w.moves ≡ true → keep w.child.tree row ≡ false)))
 
 moved : (olds : List Row) (move : Row × Row) → Has (pairs olds []) move → Has olds move.0
 moved [] move h = absurd h
@@ -107,7 +117,8 @@ moved (o ∷ olds) move (inl same) = inl (ap (λ m. m.0) same)
 moved (o ∷ olds) move (inr later) = inr (moved olds move later)
 
 module _ (schema : Schema) (keys : Keys) (keep : Keep) (follows : Follows schema keys keep) where
-  work_due : (depth tree : ℕ) (olds : List Row) (child : Table) (ref : Reference) (deed : Option Deed) (key : Option ParentKey) (w : Work)
+  work_due : (depth tree : ℕ) (olds : List Row) (child : Table) (ref : Reference) (deed : Option Deed)
+      (key : Option ParentKey) (w : Work)
       → Has schema.tables child
       → FollowsAt keep child.tree ref deed key → ((r : Row) → Has olds r → keep tree r ≡ false)
       → work_by depth tree (pairs olds []) child ref deed key ≡ Some w → IsDue schema keep w
@@ -117,9 +128,19 @@ module _ (schema : Schema) (keys : Keys) (keep : Keep) (follows : Follows schema
       go (eqb key.0 tree && list_any (loses key.2 key.1) (pairs olds [])) refl is
     where
       made : Work
-      made = record { depth = depth; child = child; ref = ref; places = key.1; order = key.2; deed = deed; moves = pairs olds [] }
+      made = record {
+        depth = depth;
+        child = child;
+        ref = ref;
+        places = key.1;
+        order = key.2;
+        deed = deed;
+        moves = pairs
+            olds [];
+      }
 
-      due : (d : Deed) → deed ≡ d → key.0 ≡ tree → FollowsAt keep child.tree ref (Some d) (Some key) → IsDue schema keep made
+      due : (d : Deed) → deed ≡ d → key.0 ≡ tree → FollowsAt keep child.tree ref (Some d) (Some key)
+          → IsDue schema keep made
       due Refuse e on so = (listed, inl e)
       due Delete e on so = (
         listed,
@@ -134,29 +155,36 @@ module _ (schema : Schema) (keys : Keys) (keep : Keep) (follows : Follows schema
       due Clear e on so = absurd so
       due Reset e on so = absurd so
 
-      go : (b : Bool) → (eqb key.0 tree && list_any (loses key.2 key.1) (pairs olds [])) ≡ b → cond b (Some made) None ≡ Some w → IsDue schema keep w
+      go : (b : Bool) → (eqb key.0 tree && list_any (loses key.2 key.1) (pairs olds [])) ≡ b
+          → cond b (Some made) None ≡ Some w → IsDue schema keep w
       go false e is = absurd (cc)
-      go true e is = let same : made ≡ w = cc in subst (IsDue schema keep) same (due deed refl (eqb-true _ _ (and_parts _ _ e).0) so)
+      go true e is = let same : made ≡ w = cc in subst (IsDue schema keep) same
+          (due deed refl (eqb-true _ _ (and_parts _ _ e).0) so)
 
   works_due : (depth tree : ℕ) (olds : List Row) → ((r : Row) → Has olds r → keep tree r ≡ false) → (w : Work)
       → Has (works schema keys depth tree olds []) w → IsDue schema keep w
   works_due depth tree olds out w h =
-      let c = has_flat (λ (child : Table). filter_map (work_for schema keys depth tree olds [] child) child.references) schema.tables w h in
+      let c = has_flat (λ (child : Table). filter_map (work_for schema keys depth tree olds [] child) child.references)
+      schema.tables w h in
       let r = has_filter_mapped (work_for schema keys depth tree olds [] c.0) c.0.references w c.2 in
-      work_due depth tree olds c.0 r.0 _ _ w c.1 (all_has _ c.0.references r.0 (all_has _ schema.tables c.0 follows c.1) r.1) out r.2
+      work_due depth tree olds c.0 r.0 _ _ w c.1
+      (all_has _ c.0.references r.0 (all_has _ schema.tables c.0 follows c.1) r.1) out r.2
 
   module _ (db end : Trees) (tables : AreTables schema db) where
     -- the children of doomed rows are doomed, and so is each row that has the rowid of one
-    out_of : (now : Trees) (w : Work) (ids : List ℤ) → Shrinks schema keep db now → AreChildren now w ids → Has schema.tables w.child
+    out_of : (now : Trees) (w : Work) (ids : List ℤ) → Shrinks schema keep db now → AreChildren now w ids
+        → Has schema.tables w.child
         → ((row : Row) → list_any (is_child_of w row) w.moves ≡ true → keep w.child.tree row ≡ false)
-        → (id : ℤ) (r : Row) → Has ids id → Has (now w.child.tree) r → has_rowid id r ≡ true → keep w.child.tree r ≡ false
+        → (id : ℤ) (r : Row) → Has ids id → Has (now w.child.tree) r → has_rowid id r ≡ true
+        → keep w.child.tree r ≡ false
     out_of now w ids so found listed out id r h there is =
         let c = found.sound id h in
         let up = so.rise w.child listed (rows_in schema db tables w.child listed) in
         let same : r ≡ c.0 = same_row (now w.child.tree) id c.0 r up.rise c.1 there c.3 is in
         rw same (out c.0 c.2)
 
-    taken_out : (now : Trees) (w : Work) (ids : List ℤ) → Shrinks schema keep db now → AreChildren now w ids → Has schema.tables w.child
+    taken_out : (now : Trees) (w : Work) (ids : List ℤ) → Shrinks schema keep db now → AreChildren now w ids
+        → Has schema.tables w.child
         → ((row : Row) → list_any (is_child_of w row) w.moves ≡ true → keep w.child.tree row ≡ false)
         → (r : Row) → Has (map (row_at (now w.child.tree)) ids) r → keep w.child.tree r ≡ false
     taken_out now w ids so found listed out r h =
@@ -170,62 +198,88 @@ module _ (schema : Schema) (keys : Keys) (keep : Keep) (follows : Follows schema
     AllDue stack = (w : Work) → Has stack w → IsDue schema keep w
 
     -- one action, whatever follows it
-    module _ (Then : Trees → List Work → End → Type 0) (on : (now : Trees) (stack : List Work) → Shrinks schema keep db now → AllDue stack → Then now stack (Ok end) → Shrinks schema keep db end)
+    module _ (Then : Trees → List Work → End → Type 0)
+        (on : (now : Trees) (stack : List Work) → Shrinks schema keep db now → AllDue stack → Then now stack (Ok end)
+        → Shrinks schema keep db end)
         (now : Trees) (so : Shrinks schema keep db now) (below : List Work) (rest : AllDue below) where
       deletes : (w : Work) (ids : List ℤ) → Has schema.tables w.child
-          → ((row : Row) → list_any (is_child_of w row) w.moves ≡ true → keep w.child.tree row ≡ false) → AreChildren now w ids
-          → (edit : Edit) → edit.table ≡ w.child → edit.gone ≡ ids → edit.news ≡ [] → Goes schema keys Then now edit (w.depth + 1) below (Ok end)
+          → ((row : Row) → list_any (is_child_of w row) w.moves ≡ true → keep w.child.tree row ≡ false)
+          → AreChildren now w ids
+          → (edit : Edit) → edit.table ≡ w.child → edit.gone ≡ ids → edit.news ≡ []
+          → Goes schema keys Then now edit (w.depth + 1) below (Ok end)
           → Shrinks schema keep db end
       deletes w ids listed out found edit table gone none (inl refused) = absurd (let k = refused.2 in cc)
       deletes w ids listed out found edit table gone none (inr (inl big)) = absurd (let k = big.3 in cc)
       deletes w ids listed out found edit table gone none (inr (inr went)) =
           let lost : (id : ℤ) (r : Row) → Has edit.gone id → Has (now edit.table.tree) r → has_rowid id r ≡ true
           → keep edit.table.tree r ≡ false = rw (table, gone) (out_of now w ids so found listed out) in
-          let olds : (r : Row) → Has (taken_by now edit) r → keep edit.table.tree r ≡ false = rw (table, gone) (taken_out now w ids so found listed out) in
+          let olds : (r : Row) → Has (taken_by now edit) r
+          → keep edit.table.tree r ≡ false = rw (table, gone) (taken_out now w ids so found listed out) in
           on went.0 (below ++ works schema keys (w.depth + 1) edit.table.tree (taken_by now edit) edit.news)
-          (shrinks_then schema keys keep db now went.0 so (applied schema keys keep now went.0 edit none lost (rw table listed) went.1))
+          (shrinks_then schema keys keep db now went.0 so
+          (applied schema keys keep now went.0 edit none lost (rw table listed) went.1))
           (λ x k. elim (has_either below _ x k) [
             | inl old ↦ rest x old
-            | inr new ↦ works_due (w.depth + 1) edit.table.tree (taken_by now edit) olds x (subst (λ news. Has (works schema keys (w.depth + 1) edit.table.tree (taken_by now edit) news) x) none new)
+            | inr new ↦ works_due (w.depth + 1) edit.table.tree (taken_by now edit) olds x
+                (subst (λ news. Has (works schema keys (w.depth + 1) edit.table.tree (taken_by now edit) news) x) none
+                new)
           ])
           went.2
 
-      acted : (w : Work) → IsDue schema keep w → (ids : List ℤ) → AreChildren now w ids → ActsOn schema keys Then now w below (Ok end) ids
+      acted : (w : Work) → IsDue schema keep w → (ids : List ℤ) → AreChildren now w ids
+          → ActsOn schema keys Then now w below (Ok end) ids
           → Shrinks schema keep db end
       acted w due [] found h = on now below so rest h
       acted w (listed, inl e) (id ∷ ids) found h = absurd (let k = rw e at h in cc)
       acted w (listed, inr (e, out)) (id ∷ ids) found h =
-          deletes w (id ∷ ids) listed out found (action_edit now w (id ∷ ids)) refl refl (rw e) (unless _ _ _ (ap refuses e) h)
+          deletes w (id ∷ ids) listed out found (action_edit now w (id ∷ ids)) refl refl (rw e)
+          (unless _ _ _ (ap refuses e) h)
 
       turn : (w : Work) → IsDue schema keep w → Acts schema keys Then now w below (Ok end) → Shrinks schema keep db end
       turn w due h = go (nat_lt w.depth max_depth) h
         where
           go : (b : Bool)
-              → MatchBool b ((ids : List ℤ) × AreChildren now w ids × ActsOn schema keys Then now w below (Ok end) ids) (◌≡◌ {A = End} (Ok end) (Err (Some TooDeep))) → Shrinks schema keep db end
+              → MatchBool b ((ids : List ℤ) × AreChildren now w ids × ActsOn schema keys Then now w below (Ok end) ids)
+              (◌≡◌ {A = End} (Ok end) (Err (Some TooDeep))) → Shrinks schema keep db end
           go true h = acted w due h.0 h.1 h.2
           go false h = absurd (cc)
 
-    leads_shrinks : (n : ℕ) (now : Trees) (stack : List Work) → Shrinks schema keep db now → AllDue stack → Leads schema keys n now stack (Ok end)
+    leads_shrinks : (n : ℕ) (now : Trees) (stack : List Work) → Shrinks schema keep db now → AllDue stack
+        → Leads schema keys n now stack (Ok end)
         → Shrinks schema keep db end
-    leads_shrinks zero now stack so due h = let same : now ≡ end = (let e = h.1 in cc) in subst (Shrinks schema keep db) same so
+    leads_shrinks zero now stack so due h = let same : now ≡ end = (let e = h.1 in cc) in subst (Shrinks schema keep db)
+        same so
     leads_shrinks (suc n) now stack so due h =
-        turn (Leads schema keys n) (leads_shrinks n) now so h.0 (λ x k. due x (rw h.2 (has_left h.0 (h.1 ∷ []) x k))) h.1 (due h.1 (rw h.2 (has_right h.0 (h.1 ∷ []) h.1 (inl refl)))) h.3
+        turn (Leads schema keys n) (leads_shrinks n) now so h.0 (λ x k. due x (rw h.2 (has_left h.0 (h.1 ∷ []) x k)))
+        h.1 (due h.1 (rw h.2 (has_right h.0 (h.1 ∷ []) h.1 (inl refl)))) h.3
 
--- A step that puts no row takes away rows that are not kept, and its actions no others. What the step itself left is told too.
-pub writes_shrinks : (schema : Schema) (keys : Keys) (keep : Keep) → Follows schema keys keep → (db end : Trees) → AreTables schema db → (edit : Edit)
+-- A step that puts no row takes away rows that are not kept, and its actions no others. What the step itself left is
+-- told too.
+pub writes_shrinks : (schema : Schema) (keys : Keys) (keep : Keep) → Follows schema keys keep → (db end : Trees)
+    → AreTables schema db → (edit : Edit)
     → edit.news ≡ [] → Has schema.tables edit.table
-    → ((id : ℤ) (r : Row) → Has edit.gone id → Has (db edit.table.tree) r → has_rowid id r ≡ true → keep edit.table.tree r ≡ false)
+    → ((id : ℤ) (r : Row) → Has edit.gone id → Has (db edit.table.tree) r → has_rowid id r ≡ true
+    → keep edit.table.tree r ≡ false)
     → ((r : Row) → Has (taken_by db edit) r → keep edit.table.tree r ≡ false)
     → Writes schema keys db edit (Ok end)
-    → Shrinks schema keep db end × ((r : Row) → Has (end edit.table.tree) r → Has (without_all (db edit.table.tree) edit.gone) r)
-writes_shrinks schema keys keep follows db end tables edit none listed out olds (inl refused) = absurd (let k = refused.2 in cc)
-writes_shrinks schema keys keep follows db end tables edit none listed out olds (inr (inl big)) = absurd (let k = big.3 in cc)
+    → Shrinks schema keep db end × ((r : Row) → Has (end edit.table.tree) r
+    → Has (without_all (db edit.table.tree) edit.gone) r)
+writes_shrinks schema keys keep follows db end tables edit none listed out olds (inl refused) =
+    absurd (let k = refused.2 in cc)
+writes_shrinks schema keys keep follows db end tables edit none listed out olds (inr (inl big)) =
+    absurd (let k = big.3 in cc)
 writes_shrinks schema keys keep follows db end tables edit none listed out olds (inr (inr went)) =
     let mid = went.0 in
     let rows : mid edit.table.tree ≡ without_all (db edit.table.tree) edit.gone = rw none at went.1.rows in
     let first = applied schema keys keep db mid edit none out listed went.1 in
     let up : AreTables schema mid = tables_from schema mid (λ t h. first.rise t h (rows_in schema db tables t h)) in
-    let still : Shrinks schema keep mid mid = record { kept = λ t h. refl; was = λ t h r there. there; rise = λ t h u. u } in
-    let later = leads_shrinks schema keys keep follows mid end up went.2.0 mid (works schema keys 0 edit.table.tree (taken_by db edit) edit.news) still
-    (λ x k. works_due schema keys keep follows 0 edit.table.tree (taken_by db edit) olds x (subst (λ news. Has (works schema keys 0 edit.table.tree (taken_by db edit) news) x) none k)) went.2.1 in
-    (shrinks_then schema keys keep db mid end first later, λ r there. subst (λ l. Has l r) rows (later.was edit.table listed r there))
+    let still : Shrinks schema keep mid mid =
+    record { kept = λ t h. refl; was = λ t h r there. there; rise = λ t h u. u } in
+    let later = leads_shrinks schema keys keep follows mid end up went.2.0 mid
+    (works schema keys 0 edit.table.tree (taken_by db edit) edit.news) still
+    (λ x k. works_due schema keys keep follows 0 edit.table.tree (taken_by db edit) olds x
+    (subst (λ news. Has (works schema keys 0 edit.table.tree (taken_by db edit) news) x) none k)) went.2.1 in (
+      shrinks_then schema keys keep db mid end first later,
+      λ r there. subst (λ l. Has l r) rows
+          (later.was edit.table listed r there),
+    )

@@ -54,7 +54,9 @@ are_of (c ∷ cs) (v ∷ vs) = is_of c.kind v && are_of cs vs
 pub cast_all_is : (cs : List Column) (vs : Row) → are_of cs vs ≡ true → cast_all cs vs ≡ vs
 cast_all_is [] vs h = refl
 cast_all_is (c ∷ cs) [] h = refl
-cast_all_is (c ∷ cs) (v ∷ vs) h = let parts = and_parts _ _ h in rw (cast_is c.kind v parts.0, cast_all_is cs vs parts.1)
+cast_all_is (c ∷ cs) (v ∷ vs) h = let parts =
+    and_parts _ _ h in rw (cast_is c.kind v parts.0, cast_all_is cs vs parts.1)
 
-pub cast_row_is : (table : Table) (v : Value) (vs : Row) → is_of kind.Integer v ≡ true → are_of table.columns vs ≡ true → cast_row table (v ∷ vs) ≡ v ∷ vs
+pub cast_row_is : (table : Table) (v : Value) (vs : Row) → is_of kind.Integer v ≡ true → are_of table.columns vs ≡ true
+    → cast_row table (v ∷ vs) ≡ v ∷ vs
 cast_row_is table v vs h k = rw (cast_int v h, cast_all_is table.columns vs k)

@@ -21,29 +21,36 @@ same_value e = cc
 
 -- ---- what a list has
 
-pub has_flat : {X Y : Type 0} (f : X → List Y) (xs : List X) (y : Y) → Has (flat_map f xs) y → (x : X) × Has xs x × Has (f x) y
+pub has_flat : {X Y : Type 0} (f : X → List Y) (xs : List X) (y : Y) → Has (flat_map f xs) y → (x : X) × Has xs x
+    × Has (f x) y
 has_flat f [] y h = absurd h
-has_flat f (x ∷ xs) y h = elim (has_either (f x) (flat_map f xs) y h) [ inl here ↦ (x, inl refl, here) | inr later ↦ let r = has_flat f xs y later in (r.0, inr r.1, r.2) ]
+has_flat f (x ∷ xs) y h = elim (has_either (f x) (flat_map f xs) y h)
+    [ inl here ↦ (x, inl refl, here) | inr later ↦ let r = has_flat f xs y later in (r.0, inr r.1, r.2) ]
 
-pub flat_has : {X Y : Type 0} (f : X → List Y) (xs : List X) (x : X) (y : Y) → Has xs x → Has (f x) y → Has (flat_map f xs) y
+pub flat_has : {X Y : Type 0} (f : X → List Y) (xs : List X) (x : X) (y : Y) → Has xs x → Has (f x) y
+    → Has (flat_map f xs) y
 flat_has f [] x y h k = absurd h
 flat_has f (z ∷ xs) x y (inl same) k = has_left (f z) (flat_map f xs) y (rw (← same) k)
 flat_has f (z ∷ xs) x y (inr later) k = has_right (f z) (flat_map f xs) y (flat_has f xs x y later k)
 
-pub has_filter_mapped : {X Y : Type 0} (f : X → Option Y) (xs : List X) (y : Y) → Has (filter_map f xs) y → (x : X) × Has xs x × (f x ≡ Some y)
+pub has_filter_mapped : {X Y : Type 0} (f : X → Option Y) (xs : List X) (y : Y) → Has (filter_map f xs) y → (x : X)
+    × Has xs x × (f x ≡ Some y)
 has_filter_mapped f [] y h = absurd h
 has_filter_mapped {X} {Y} f (x ∷ xs) y h = go (f x) refl h (has_filter_mapped f xs y)
   where
-    go : (o : Option Y) → f x ≡ o → Has (cons_option o (filter_map f xs)) y → (Has (filter_map f xs) y → (z : X) × Has xs z × (f z ≡ Some y))
+    go : (o : Option Y) → f x ≡ o → Has (cons_option o (filter_map f xs)) y
+        → (Has (filter_map f xs) y → (z : X) × Has xs z × (f z ≡ Some y))
         → (z : X) × Has (x ∷ xs) z × (f z ≡ Some y)
     go None is there later = let r = later there in (r.0, inr r.1, r.2)
     go (Some z) is (inl same) later = (x, inl refl, is ∙ ap Some (sym same))
     go (Some z) is (inr there) later = let r = later there in (r.0, inr r.1, r.2)
 
 pub has_permuted : {X : Type 0} (xs ys : List X) (x : X) → IsPermutation xs ys → Has ys x → Has xs x
-has_permuted xs ys x same there = all_has (Has xs) ys x (all-permutation (Has xs) xs ys same (all_from (Has xs) xs (λ y h. h))) there
+has_permuted xs ys x same there =
+    all_has (Has xs) ys x (all-permutation (Has xs) xs ys same (all_from (Has xs) xs (λ y h. h))) there
 
-pub has_place : {A : Type 0} (xs : List A) (x : A) → Has xs x → (k : ℕ) × (k < length xs) × ((d : A) → get_or xs k d ≡ x)
+pub has_place : {A : Type 0} (xs : List A) (x : A) → Has xs x → (k : ℕ) × (k < length xs)
+    × ((d : A) → get_or xs k d ≡ x)
 has_place [] x h = absurd h
 has_place (y ∷ xs) x (inl same) = (zero, omega arith, λ d. sym same)
 has_place (y ∷ xs) x (inr later) = let it = has_place xs x later in (suc it.0, omega (arith, it.1), it.2)
@@ -51,7 +58,8 @@ has_place (y ∷ xs) x (inr later) = let it = has_place xs x later in (suc it.0,
 -- ---- filters
 
 -- a filter does not see the elements that it would drop
-pub filter_after : {X : Type 0} (p q : X → Bool) (xs : List X) → ((x : X) → Has xs x → q x ≡ false → p x ≡ false) → filter p (filter q xs) ≡ filter p xs
+pub filter_after : {X : Type 0} (p q : X → Bool) (xs : List X) → ((x : X) → Has xs x → q x ≡ false → p x ≡ false)
+    → filter p (filter q xs) ≡ filter p xs
 filter_after p q [] so = refl
 filter_after p q (x ∷ xs) so = elim (cases_Bool (q x)) [
   | inl e ↦ let more = filter_after p q xs (λ y h. so y (inr h)) in rw (e, more)
@@ -60,21 +68,26 @@ filter_after p q (x ∷ xs) so = elim (cases_Bool (q x)) [
 
 pub filter_whole : {X : Type 0} (p : X → Bool) (xs : List X) → ((x : X) → Has xs x → p x ≡ true) → filter p xs ≡ xs
 filter_whole p [] so = refl
-filter_whole p (x ∷ xs) so = let e = so x (inl refl) in let more = filter_whole p xs (λ y h. so y (inr h)) in rw (e, more)
+filter_whole p (x ∷ xs) so = let e = so x (inl refl) in let more = filter_whole p xs (λ y h. so y (inr h)) in rw
+    (e, more)
 
 pub filter_twice : {X : Type 0} (p q : X → Bool) (xs : List X) → filter p (filter q xs) ≡ filter (λ x. q x && p x) xs
 filter_twice p q [] = refl
 filter_twice {X} p q (x ∷ xs) =
-    elim (q x) as (λ b. filter p (cond b (x ∷ filter q xs) (filter q xs)) ≡ cond (b && p x) (x ∷ filter (λ y. q y && p y) xs) (filter (λ y. q y && p y) xs))
+    elim (q x) as (λ b. filter p (cond b (x ∷ filter q xs) (filter q xs)) ≡ cond (b && p x)
+    (x ∷ filter (λ y. q y && p y) xs) (filter (λ y. q y && p y) xs))
     [ true ↦ rw (filter_twice p q xs) | false ↦ filter_twice p q xs ]
 
-pub flat_filtered : {A B : Type 0} (p : A → Bool) (f : A → B) (xs : List A) → flat_map (λ x. cond (p x) (f x ∷ []) []) xs ≡ map f (filter p xs)
+pub flat_filtered : {A B : Type 0} (p : A → Bool) (f : A → B) (xs : List A)
+    → flat_map (λ x. cond (p x) (f x ∷ []) []) xs ≡ map f (filter p xs)
 flat_filtered p f [] = refl
 flat_filtered p f (x ∷ xs) =
-    elim (p x) as (λ b. cond b (f x ∷ []) [] ++ flat_map (λ y. cond (p y) (f y ∷ []) []) xs ≡ map f (cond b (x ∷ filter p xs) (filter p xs)))
+    elim (p x) as (λ b. cond b (f x ∷ []) [] ++ flat_map (λ y. cond (p y) (f y ∷ []) []) xs
+    ≡ map f (cond b (x ∷ filter p xs) (filter p xs)))
     [ true ↦ ap (λ l. f x ∷ l) (flat_filtered p f xs) | false ↦ flat_filtered p f xs ]
 
-pub flat_counted : {A B : Type 0} (p : A → Bool) (f : A → B) (xs : List A) → length (flat_map (λ x. cond (p x) (f x ∷ []) []) xs) ≡ length (filter p xs)
+pub flat_counted : {A B : Type 0} (p : A → Bool) (f : A → B) (xs : List A)
+    → length (flat_map (λ x. cond (p x) (f x ∷ []) []) xs) ≡ length (filter p xs)
 flat_counted p f xs = ap length (flat_filtered p f xs) ∙ length-map (filter p xs) f
 
 -- ---- a place in a list
@@ -93,7 +106,8 @@ map_split {X} {Y} f (x ∷ xs) (z ∷ front) tail y h =
         → (a : List X) × (w : X) × (b : List X) × (x ∷ xs ≡ a ++ w ∷ b) × (map f a ≡ z ∷ front) × (f w ≡ y)
     longer head (a, w, b, whole, before, here) = (x ∷ a, w, b, ap (λ l. x ∷ l) whole, ap₂ ◌∷◌ head before, here)
 
-pub ascends_past : {X : Type 0} (R : X → X → Type 0) (a b : List X) (x y : X) → IsAscending R (a ++ x ∷ b) → Has b y → R x y
+pub ascends_past : {X : Type 0} (R : X → X → Type 0) (a b : List X) (x y : X) → IsAscending R (a ++ x ∷ b) → Has b y
+    → R x y
 ascends_past R [] b x y up h = all_has (R x) b y up.0 h
 ascends_past R (z ∷ a) b x y up h = ascends_past R a b x y up.1 h
 
@@ -117,16 +131,19 @@ and_true false = refl
 
 -- ---- tests over a list
 
-pub filter_out : {X : Type 0} (p q : X → Bool) (xs : List X) → ((x : X) → Has xs x → q x ≡ not (p x)) → filter p (filter q xs) ≡ []
+pub filter_out : {X : Type 0} (p q : X → Bool) (xs : List X) → ((x : X) → Has xs x → q x ≡ not (p x))
+    → filter p (filter q xs) ≡ []
 filter_out p q [] so = refl
 filter_out p q (x ∷ xs) so = elim (cases_Bool (p x)) [
   | inl e ↦ let f = so x (inl refl) in let more = filter_out p q xs (λ y h. so y (inr h)) in rw (f, e) more
   | inr e ↦ let f = so x (inl refl) in let more = filter_out p q xs (λ y h. so y (inr h)) in rw (f, e, e) more
 ]
 
-pub either_any : {X : Type 0} (p q : X → Bool) (xs : List X) → (list_any p xs || list_any q xs) ≡ list_any (λ x. p x || q x) xs
+pub either_any : {X : Type 0} (p q : X → Bool) (xs : List X)
+    → (list_any p xs || list_any q xs) ≡ list_any (λ x. p x || q x) xs
 either_any p q [] = refl
-either_any p q (x ∷ xs) = mixed (p x) (q x) (list_any p xs) (list_any q xs) ∙ ap (λ b. (p x || q x) || b) (either_any p q xs)
+either_any p q (x ∷ xs) = mixed (p x) (q x) (list_any p xs) (list_any q xs)
+    ∙ ap (λ b. (p x || q x) || b) (either_any p q xs)
   where
     mixed : (a b c d : Bool) → ((a || c) || (b || d)) ≡ ((a || b) || (c || d))
     mixed true b c d = refl

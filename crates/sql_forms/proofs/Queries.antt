@@ -26,7 +26,9 @@ pub record AnswersOver (q : Query) (rows shown : List Row) (params : Row) : Type
   pub shows : shown ≡ page q params (map (λ (o : Output). o.1) ordered)
 
 pub no_overlay : (db : Trees) (t : ℕ) → overlay db [] t ≡ db t
-no_overlay db t = elim (nat_le (2 ^ 31) t) as (λ b. unwrap_or (if b then slice_get {X = List Row} [] (t - 2 ^ 31) else None) (db t) ≡ db t) [ true ↦ refl | false ↦ refl ]
+no_overlay db t = elim (nat_le (2 ^ 31) t) as
+    (λ b. unwrap_or (if b then slice_get {X = List Row} [] (t - 2 ^ 31) else None) (db t) ≡ db t)
+    [ true ↦ refl | false ↦ refl ]
 
 module _ (tree : ℕ) (terms project : List Term) (db : Trees) (params : Row) (rows : List Row) where
   module _ (order : List (Term × Key)) (limit : Term) where
@@ -36,10 +38,17 @@ module _ (tree : ℕ) (terms project : List Term) (db : Trees) (params : Row) (r
         let q = over tree terms project order limit in
         let a = h Null in
         let staged : a.staged ≡ map (λ r. params ∷ r ∷ []) (filter (passes terms params) (db tree)) =
-        a.grouped ∙ flat_filtered (passes terms params) (λ r. params ∷ r ∷ []) (overlay db [] tree) ∙ ap (λ rs. map (λ r. params ∷ r ∷ []) (filter (passes terms params) rs)) (no_overlay db tree) in
+        a.grouped ∙ flat_filtered (passes terms params) (λ r. params ∷ r ∷ []) (overlay db [] tree)
+        ∙ ap (λ rs. map (λ r. params ∷ r ∷ []) (filter (passes terms params) rs)) (no_overlay db tree) in
         let kept : a.kept ≡ outputs q params (filter (passes terms params) (db tree)) =
-        a.distinct ∙ ap (map (output q)) staged ∙ map-map (output q) (λ r. params ∷ r ∷ []) (filter (passes terms params) (db tree)) in
-        record { ordered = a.ordered; same = subst (λ k. IsPermutation k a.ordered) kept a.same; sorted = a.sorted; shows = a.shown }
+        a.distinct ∙ ap (map (output q)) staged
+        ∙ map-map (output q) (λ r. params ∷ r ∷ []) (filter (passes terms params) (db tree)) in
+        record {
+          ordered = a.ordered;
+          same = subst (λ k. IsPermutation k a.ordered) kept a.same;
+          sorted = a.sorted;
+          shows = a.shown;
+        }
 
   -- with no order and no limit
   pub answers_all : IsProgramAnswer [] (all_of tree terms project) db params rows
@@ -47,5 +56,7 @@ module _ (tree : ℕ) (terms project : List Term) (db : Trees) (params : Row) (r
   answers_all h =
       let a = answers_over [] (all_of tree terms project).limit h in
       let shown = IsPermutation-map (λ (o : Output). o.1) _ _ a.same in
-      subst (λ xs. IsPermutation xs rows) (map-map (λ (o : Output). o.1) (λ r. output (all_of tree terms project) (params ∷ r ∷ [])) (filter (passes terms params) (db tree)))
+      subst (λ xs. IsPermutation xs rows)
+      (map-map (λ (o : Output). o.1) (λ r. output (all_of tree terms project) (params ∷ r ∷ []))
+      (filter (passes terms params) (db tree)))
       (subst (IsPermutation _) (sym a.shows) shown)

@@ -10,7 +10,8 @@ use Rattle.sqlite_rules.specs.Lists.{Has}
 use Rattle.sqlite_rules.proofs.ListLemmas.{all_has, some_has, some_from}
 use Rattle.sql_forms.specs.Tables.{is_table, tables_of, AreRows, AreTables, IsBare}
 
-pub rows_at : (schema : Schema) (tree : ℕ) (db : Trees) → is_table schema tree ≡ true → tables_of schema db tree ≡ db tree
+pub rows_at : (schema : Schema) (tree : ℕ) (db : Trees) → is_table schema tree ≡ true
+    → tables_of schema db tree ≡ db tree
 rows_at schema tree db listed = rw listed refl
 
 pub no_rows : AreRows []
@@ -43,7 +44,8 @@ module _ (schema : Schema) where
   -- ---- tables without a row
 
   pub bare_at : (db : Database) → IsBare schema db → (t : ℕ) → tables_of schema db.trees t ≡ []
-  bare_at db bare = at_tables (λ t old new. new ≡ []) db.trees db.trees (λ t. refl) (λ table h. all_has (λ (x : Table). db.trees x.tree ≡ []) schema.tables table bare.empty h)
+  bare_at db bare = at_tables (λ t old new. new ≡ []) db.trees db.trees (λ t. refl)
+      (λ table h. all_has (λ (x : Table). db.trees x.tree ≡ []) schema.tables table bare.empty h)
 
   pub bare_rows : (db : Database) → IsBare schema db → AreTables schema db.trees
   bare_rows db bare t = subst AreRows (sym (bare_at db bare t)) no_rows

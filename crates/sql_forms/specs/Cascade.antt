@@ -39,7 +39,8 @@ FollowsAt keep child ref (Some Reset) key = ⊥
 -- so it is of each reference whose action deletes, and no action does else than delete or refuse
 abbrev pub Follows : Schema → Keys → Keep → Type 0
 Follows schema keys keep = AllByRecursion (λ t. AllByRecursion
-    (λ ref. FollowsAt keep t.tree ref (deed_for keys true ref) (parent_key schema.tables ref)) t.references) schema.tables
+    (λ ref. FollowsAt keep t.tree ref (deed_for keys true ref) (parent_key schema.tables ref)) t.references)
+    schema.tables
 
 -- of each table only rows went that are not kept
 pub record Shrinks (schema : Schema) (keep : Keep) (db now : Trees) : Type 0 where
@@ -72,12 +73,14 @@ heads_match (Some p) (Some q) [] qs = false
 heads_match (Some p) (Some q) (x ∷ ps) [] = false
 heads_match (Some p) (Some q) (x ∷ ps) (y ∷ qs) = (x == p) && (y == q)
 
--- `Follows` as a test: where the parent's rows go by a column, the reference begins with it, and the child's rows go by the column that refers to it
+-- `Follows` as a test: where the parent's rows go by a column, the reference begins with it, and the child's rows go by
+-- the column that refers to it
 abbrev pub carries_at : (ℕ → Option ℕ) → ℕ → Reference → Option Deed → Option ParentKey → Bool
 carries_at place child ref None key = true
 carries_at place child ref (Some Refuse) key = true
 carries_at place child ref (Some Delete) None = true
-carries_at place child ref (Some Delete) (Some key) = heads_match (place child) (place key.0) ref.columns key.1 && is_binary (first_key key.2).collation
+carries_at place child ref (Some Delete) (Some key) = heads_match (place child) (place key.0) ref.columns key.1
+    && is_binary (first_key key.2).collation
 carries_at place child ref (Some Follow) key = false
 carries_at place child ref (Some Clear) key = false
 carries_at place child ref (Some Reset) key = false
@@ -85,12 +88,14 @@ carries_at place child ref (Some Reset) key = false
 -- so it is of each reference of the schema, where `place` says by which column the rows of a tree go, if by one
 abbrev pub carries : Schema → Keys → (ℕ → Option ℕ) → Bool
 carries schema keys place = list_all (λ t. list_all
-    (λ ref. carries_at place t.tree ref (deed_for keys true ref) (parent_key schema.tables ref)) t.references) schema.tables
+    (λ ref. carries_at place t.tree ref (deed_for keys true ref) (parent_key schema.tables ref)) t.references)
+    schema.tables
 
 -- the place is that of a column that is never NULL
 abbrev pub is_needed : Table → ℕ → Bool
 is_needed table zero = false
-is_needed table (suc at) = unwrap_or (option_map (λ c. c.not_null && not (is_key table.key at)) (slice_get table.columns at)) false
+is_needed table (suc at) = unwrap_or
+    (option_map (λ c. c.not_null && not (is_key table.key at)) (slice_get table.columns at)) false
 
 -- ---- a delete by one column, as a whole
 
@@ -106,7 +111,8 @@ leads_to place child above ref (Some key) =
     list_any (λ tree. tree == key.0) above && (list_all (is_needed child) ref.columns
     && (heads_match (place key.0) (place child.tree) key.1 ref.columns && is_binary (first_key key.2).collation))
 
--- the table's rows go by no column, or it is among these trees, or it refers to one of them by the column that its rows go by
+-- the table's rows go by no column, or it is among these trees, or it refers to one of them by the column that its rows
+-- go by
 abbrev pub is_covered : List Table → (ℕ → Option ℕ) → List ℕ → Table → Option ℕ → Bool
 is_covered tables place above child None = true
 is_covered tables place above child (Some p) = list_any (λ tree. tree == child.tree) above || list_any
@@ -115,9 +121,11 @@ is_covered tables place above child (Some p) = list_any (λ tree. tree == child.
 -- so it is of each of the tables in turn, with those before it among the trees
 abbrev pub covers_from : List Table → (ℕ → Option ℕ) → List ℕ → List Table → Bool
 covers_from tables place above [] = true
-covers_from tables place above (t ∷ more) = is_covered tables place above t (place t.tree) && covers_from tables place (t.tree ∷ above) more
+covers_from tables place above (t ∷ more) = is_covered tables place above t (place t.tree)
+    && covers_from tables place (t.tree ∷ above) more
 
--- Each table that has a column for the value refers by it to an earlier one that has, but for the one that loses its rows first.
+-- Each table that has a column for the value refers by it to an earlier one that has, but for the one that loses its
+-- rows first.
 abbrev pub covers : Schema → (ℕ → Option ℕ) → ℕ → Bool
 covers schema place first = covers_from schema.tables place (first ∷ []) schema.tables
 
@@ -127,7 +135,8 @@ cut place v db t = left_without (place t) v (db t)
 
 -- ---- a delete that sets off nothing
 
--- a deletion in the tree sets nothing off by the reference: it has no action, refuses, or takes rows along with those of another tree
+-- a deletion in the tree sets nothing off by the reference: it has no action, refuses, or takes rows along with those
+-- of another tree
 abbrev pub spares : ℕ → Option Deed → Option ParentKey → Bool
 spares tree None key = true
 spares tree (Some Refuse) key = true
@@ -139,7 +148,9 @@ spares tree (Some Reset) key = false
 
 -- no action follows where rows of this tree are deleted, but that some may be refused
 abbrev pub is_childless : Schema → Keys → ℕ → Bool
-is_childless schema keys tree = list_all (λ t. list_all (λ ref. spares tree (deed_for keys true ref) (parent_key schema.tables ref)) t.references) schema.tables
+is_childless schema keys tree =
+    list_all (λ t. list_all (λ ref. spares tree (deed_for keys true ref) (parent_key schema.tables ref)) t.references)
+    schema.tables
 
 -- keeps the rows that WHERE doesn't find in the tree, and all of the others
 abbrev pub keep_missed : ℕ → List Term → Row → Keep

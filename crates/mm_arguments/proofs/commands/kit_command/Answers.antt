@@ -7,11 +7,13 @@ use Rattle.mm_arguments.proofs.commands.kit_command.Goals as goal
 
 pub returns : goal.returns
 returns c =
-    let shown = worded _ _ (worded _ _ (c.new.ensures.app, c.new.ensures.local) c.about.ensures refl refl) c.after_help.ensures refl refl in
+    let shown = worded _ _ (worded _ _ (c.new.ensures.app, c.new.ensures.local) c.about.ensures refl refl)
+    c.after_help.ensures refl refl in
     let named : IsCommand (new_app (codes "kit")) c.after_long_help.result = worded _ _ shown c.after_long_help.ensures refl refl in
     let with_file = takes _ _ _ _ _ named c.file_argument.ensures c.in_ok-arg.ensures in
     let with_edition = takes _ _ _ _ _ with_file c.edition_argument.ensures c.in_ok-arg-2.ensures in
     let with_folder = takes _ _ _ _ _ with_edition c.folder_argument.ensures c.in_ok-arg-3.ensures in
     let with_at = takes _ _ _ _ _ with_folder c.at_argument.ensures c.in_ok-arg-4.ensures in
     let with_words = takes _ _ _ _ _ with_at c.words_argument.ensures c.in_ok-arg-5.ensures in
-    IfOk-weaker c.arg-6.result _ _ (λ whole added. takes _ _ _ _ _ with_words c.progress_argument.ensures added) c.arg-6.ensures
+    IfOk-weaker c.arg-6.result _ _ (λ whole added. takes _ _ _ _ _ with_words c.progress_argument.ensures added)
+    c.arg-6.ensures

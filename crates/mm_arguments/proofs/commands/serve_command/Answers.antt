@@ -7,9 +7,11 @@ use Rattle.mm_arguments.proofs.commands.serve_command.Goals as goal
 
 pub returns : goal.returns
 returns c =
-    let shown = worded _ _ (worded _ _ (c.new.ensures.app, c.new.ensures.local) c.about.ensures refl refl) c.after_help.ensures refl refl in
+    let shown = worded _ _ (worded _ _ (c.new.ensures.app, c.new.ensures.local) c.about.ensures refl refl)
+    c.after_help.ensures refl refl in
     let named : IsCommand (new_app (codes "serve")) c.after_long_help.result = worded _ _ shown c.after_long_help.ensures refl refl in
     let with_file = takes _ _ _ _ _ named c.file_argument.ensures c.in_ok-arg.ensures in
     let with_port = takes _ _ _ _ _ with_file c.port_argument.ensures c.in_ok-arg-2.ensures in
     let with_count = takes _ _ _ _ _ with_port c.count_argument.ensures c.in_ok-arg-3.ensures in
-    IfOk-weaker c.arg-4.result _ _ (λ whole added. takes _ _ _ _ _ with_count c.progress_argument.ensures added) c.arg-4.ensures
+    IfOk-weaker c.arg-4.result _ _ (λ whole added. takes _ _ _ _ _ with_count c.progress_argument.ensures added)
+    c.arg-4.ensures

@@ -12,7 +12,8 @@ returns-in_err-mw c =
     let t = text_at c.args.fields.now in
     rw (p.1, p.2) (refuses c.args.fields.now 6 (omega arith) (omega arith) c.in_err-mw.was
     (and_then matrix_side (t 0) (record { value = λ z. Whole (pos z); reads = c.count_field.ensures }) c.both-5.ensures
-    (and_then matrix_side (t 1) (record { value = λ z. Whole (pos z); reads = c.count_field-2.ensures }) c.both-4.ensures
+    (and_then matrix_side (t 1) (record { value = λ z. Whole (pos z); reads = c.count_field-2.ensures })
+    c.both-4.ensures
     (and_then tile_side (t 2) (record { value = λ z. Whole (pos z); reads = c.count_field-3.ensures }) c.both-3.ensures
     (and_then tile_side (t 3) (record { value = λ z. Whole (pos z); reads = c.count_field-4.ensures }) c.both-2.ensures
     (and_then (pixel_size current) (t 4) (record { value = Whole; reads = c.positive_field.ensures }) c.both.ensures
@@ -24,7 +25,8 @@ returns c =
     let all =
     holds c.in_ok-mw.was
     (and_then matrix_side (t 0) (record { value = λ z. Whole (pos z); reads = c.count_field.ensures }) c.both-5.ensures
-    (and_then matrix_side (t 1) (record { value = λ z. Whole (pos z); reads = c.count_field-2.ensures }) c.both-4.ensures
+    (and_then matrix_side (t 1) (record { value = λ z. Whole (pos z); reads = c.count_field-2.ensures })
+    c.both-4.ensures
     (and_then tile_side (t 2) (record { value = λ z. Whole (pos z); reads = c.count_field-3.ensures }) c.both-3.ensures
     (and_then tile_side (t 3) (record { value = λ z. Whole (pos z); reads = c.count_field-4.ensures }) c.both-2.ensures
     (and_then (pixel_size current) (t 4) (record { value = Whole; reads = c.positive_field.ensures }) c.both.ensures

@@ -41,6 +41,23 @@ returns-in-rehearse c = command_arm _ c.args.fields.now (codes "rehearse") (Some
 pub returns-in_default-word : goal.returns-in_default-word
 returns-in_default-word c =
     let n = c.in_default-word in
-    edit_arm _ c.args.fields.now c.in-len1-up.len_at_least n.not-stage
-    (n.not-srs, (n.not-pyramid, (n.not-table, (n.not-drop, (n.not-relation, (n.not-text, (n.not-edition, (n.not-discard, (n.not-publish, (n.not-rehearse, tt))))))))))
+    edit_arm _ c.args.fields.now c.in-len1-up.len_at_least n.not-stage (
+      n.not-srs,
+      (
+        n.not-pyramid,
+        (
+          n.not-table,
+          (
+            n.not-drop,
+            (
+              n.not-relation,
+              (
+                n.not-text,
+                (n.not-edition, (n.not-discard, (n.not-publish, (n.not-rehearse, tt)))),
+              ),
+            ),
+          ),
+        ),
+      ),
+    )
     c.read_edit.ensures

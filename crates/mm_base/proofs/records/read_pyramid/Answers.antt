@@ -20,7 +20,8 @@ returns-in_err-table c =
     (and_then (coordinate current) (t 4) (record { value = Whole; reads = c.signed_field-2.ensures }) c.both-3.ensures
     (and_then (coordinate current) (t 5) (record { value = Whole; reads = c.signed_field-3.ensures }) c.both-2.ensures
     (and_then (coordinate current) (t 6) (record { value = Whole; reads = c.signed_field-4.ensures }) c.both.ensures
-    (the_last step_words (t 7) (record { value = λ step. Plain (kind_text (step_kind step)); reads = c.step_field.ensures }))))))))))
+    (the_last step_words (t 7) (record
+    { value = λ step. Plain (kind_text (step_kind step)); reads = c.step_field.ensures }))))))))))
 
 pub returns : goal.returns
 returns c =
@@ -34,5 +35,6 @@ returns c =
     (and_then (coordinate current) (t 4) (record { value = Whole; reads = c.signed_field-2.ensures }) c.both-3.ensures
     (and_then (coordinate current) (t 5) (record { value = Whole; reads = c.signed_field-3.ensures }) c.both-2.ensures
     (and_then (coordinate current) (t 6) (record { value = Whole; reads = c.signed_field-4.ensures }) c.both.ensures
-    (the_last step_words (t 7) (record { value = λ step. Plain (kind_text (step_kind step)); reads = c.step_field.ensures }))))))))) in
+    (the_last step_words (t 7) (record
+    { value = λ step. Plain (kind_text (step_kind step)); reads = c.step_field.ensures }))))))))) in
     rw (texts_are c.args.fields.now 8 (omega arith) (omega arith)) (refl, all)

@@ -14,7 +14,8 @@ returns-in_err-mapping c =
     (and_then AName (t 0) (record { value = Plain; reads = c.name_field.ensures }) c.both-3.ensures
     (and_then AName (t 1) (record { value = Plain; reads = c.name_field-2.ensures }) c.both-2.ensures
     (and_then AName (t 2) (record { value = Plain; reads = c.name_field-3.ensures }) c.both.ensures
-    (the_last relation_words (t 3) (record { value = λ name. Plain (relation_text name); reads = c.relation_field.ensures }))))))
+    (the_last relation_words (t 3) (record
+    { value = λ name. Plain (relation_text name); reads = c.relation_field.ensures }))))))
 
 pub returns : goal.returns
 returns c =
@@ -24,5 +25,6 @@ returns c =
     (and_then AName (t 0) (record { value = Plain; reads = c.name_field.ensures }) c.both-3.ensures
     (and_then AName (t 1) (record { value = Plain; reads = c.name_field-2.ensures }) c.both-2.ensures
     (and_then AName (t 2) (record { value = Plain; reads = c.name_field-3.ensures }) c.both.ensures
-    (the_last relation_words (t 3) (record { value = λ name. Plain (relation_text name); reads = c.relation_field.ensures }))))) in
+    (the_last relation_words (t 3) (record
+    { value = λ name. Plain (relation_text name); reads = c.relation_field.ensures }))))) in
     rw (texts_are c.args.fields.now 4 (omega arith) (omega arith)) (refl, all)

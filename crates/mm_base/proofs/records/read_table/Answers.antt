@@ -13,7 +13,8 @@ returns-in_err-table c =
     let t = text_at c.args.fields.now in
     rw (p.1, p.2) (refuses c.args.fields.now 3 (omega arith) (omega arith) c.in_err-table.was
     (and_then AName (t 0) (record { value = Plain; reads = c.name_field.ensures }) c.both-2.ensures
-    (and_then kind_words (t 1) (record { value = λ kind. Plain (kind_text (plain_kind kind)); reads = c.kind_field.ensures }) c.both.ensures
+    (and_then kind_words (t 1) (record
+    { value = λ kind. Plain (kind_text (plain_kind kind)); reads = c.kind_field.ensures }) c.both.ensures
     (the_last AnIdentifier (t 2) (record { value = Plain; reads = c.read.ensures })))))
 
 pub returns : goal.returns
@@ -22,6 +23,7 @@ returns c =
     let all =
     holds c.in_ok-table.was
     (and_then AName (t 0) (record { value = Plain; reads = c.name_field.ensures }) c.both-2.ensures
-    (and_then kind_words (t 1) (record { value = λ kind. Plain (kind_text (plain_kind kind)); reads = c.kind_field.ensures }) c.both.ensures
+    (and_then kind_words (t 1) (record
+    { value = λ kind. Plain (kind_text (plain_kind kind)); reads = c.kind_field.ensures }) c.both.ensures
     (the_last AnIdentifier (t 2) (record { value = Plain; reads = c.read.ensures })))) in
     rw (texts_are c.args.fields.now 3 (omega arith) (omega arith)) (refl, all)

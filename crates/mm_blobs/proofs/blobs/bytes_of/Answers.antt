@@ -11,15 +11,29 @@ pub returns-in-Ok : goal.returns-in-Ok
 returns-in-Ok g c = record {
   same = search rules;
   found = λ profile spare.
-      moves_as _ _ c.in_ok-row.field-0 c.in-Ok.bytes ((rw (to_z-of_z c.ranges.id) at c.in_ok-row.ensures.found) profile spare) (λ base x it. it)
-      (λ base x y it last. (last.0, last.1, bytes_told _ c.in-Some.row c.in-Ok.bytes.items (subst (ShowsBytes _) c.in-Some.is last.2) c.in-Ok.ensures));
+      moves_as _ _ c.in_ok-row.field-0 c.in-Ok.bytes
+      ((rw (to_z-of_z c.ranges.id) at c.in_ok-row.ensures.found) profile spare) (λ base x it. it)
+      (λ base x y it last. (
+        last.0,
+        last.1,
+        bytes_told _ c.in-Some.row c.in-Ok.bytes.items
+            (subst (ShowsBytes _) c.in-Some.is last.2) c.in-Ok.ensures,
+      ));
 }
 
 pub returns-in-Some : goal.returns-in-Some
-returns-in-Some g c = record { same = search rules; found = λ profile spare. move_untold _ _ _ _ (c.in_ok-row.ensures.found profile spare) (told_fault c.in-Err.error _ c.fault_of.ensures) }
+returns-in-Some g c = record {
+  same = search rules;
+  found = λ profile spare. move_untold _ _ _ _
+      (c.in_ok-row.ensures.found profile spare) (told_fault c.in-Err.error _ c.fault_of.ensures);
+}
 
 pub returns : goal.returns
-returns g c = record { same = search rules; found = λ profile spare. move_untold _ _ _ _ (c.in_ok-row.ensures.found profile spare) (inr refl) }
+returns g c = record {
+  same = search rules;
+  found = λ profile spare. move_untold _ _ _ _
+      (c.in_ok-row.ensures.found profile spare) (inr refl);
+}
 
 pub returns-in_err-row : goal.returns-in_err-row
 returns-in_err-row g c = record {

@@ -20,7 +20,11 @@ returns g c = record {
       let old = state g.S.Store c.args.tx.now.conn.now in
       let new = state g.S.Store c.run.new.tx.conn.now in
       let id = c.args.id in
-      moves_run profile old new _ _ spare (λ db. with_tree db 27 (without (by_number id) (db 27))) (λ x. ¬ IsNamed x.kept id) (λ x. record x { kept = record (x.kept) { shelf = remove x.kept.shelf id } }) (spare_but id spare) c.run.result c.run.ensures.run
-      (λ count ready h. has_deleted _ _ _ _ _ statement.delete_blob old new ready (Int id ∷ []) _ (search rules) (Ok count) h)
-      (λ ready x h unnamed. holds_with spare (spare_but id spare) profile.version (seen old) x h _ _ (keeps_less spare (seen old) x.kept x.content (kept_in spare spare profile.version (seen old) x h) id unnamed));
+      moves_run profile old new _ _ spare (λ db. with_tree db 27 (without (by_number id) (db 27)))
+      (λ x. ¬ IsNamed x.kept id) (λ x. record x { kept = record (x.kept) { shelf = remove x.kept.shelf id } })
+      (spare_but id spare) c.run.result c.run.ensures.run
+      (λ count ready h. has_deleted _ _ _ _ _ statement.delete_blob old new ready (Int id ∷ []) _ (search rules)
+      (Ok count) h)
+      (λ ready x h unnamed. holds_with spare (spare_but id spare) profile.version (seen old) x h _ _
+      (keeps_less spare (seen old) x.kept x.content (kept_in spare spare profile.version (seen old) x h) id unnamed));
 }

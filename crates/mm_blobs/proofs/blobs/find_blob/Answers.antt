@@ -17,7 +17,12 @@ returns g c = record {
       let new = state g.S.Store c.first_number.new.tx.conn.now in
       let digest = c.args.digest.now in
       let bytes = c.args.bytes.now in
-      looks profile old new _ _ spare GivesNumber (λ x it. IsFound x.kept.shelf bytes it) c.first_number.result c.first_number.ensures.asked (λ it first ready shown gives.
-      let read = selects_one _ _ _ _ _ _ statement.blob_of_bytes old new ready.schema_is (Words digest ∷ Bytes bytes ∷ []) _ (search rules) first shown in
-      (read.0, λ x h. found_blob spare (seen old) x.kept x.content (kept_in spare spare profile.version (seen old) x h) digest bytes c.requires it first gives read.1));
+      looks profile old new _ _ spare GivesNumber (λ x it. IsFound x.kept.shelf bytes it) c.first_number.result
+      c.first_number.ensures.asked (λ it first ready shown gives.
+      let read = selects_one _ _ _ _ _ _ statement.blob_of_bytes old new ready.schema_is
+      (Words digest ∷ Bytes bytes ∷ []) _ (search rules) first shown in (
+        read.0,
+        λ x h. found_blob spare (seen old) x.kept x.content (kept_in spare spare profile.version (seen old) x h)
+            digest bytes c.requires it first gives read.1,
+      ));
 }

@@ -24,11 +24,15 @@ returns-in-Some g c = record {
       let bytes = c.args.bytes.now in
       let id = c.in-Some.id in
       let back : to_z w64 (of_z w64 id) ≡ id = search (rules, to_z-of_z) in
-      subst (λ t. IsMove old new (IsSeen spare profile old) (λ base x it y. (y ≡ record x { kept = record (x.kept) { shelf = y.kept.shelf } }) × IsSeen (spare_too it spare) profile new base y × (bytes_at y.kept.shelf it ≡ Some bytes)) (Ok t)) (sym back)
+      subst (λ t. IsMove old new (IsSeen spare profile old)
+      (λ base x it y. (y ≡ record x { kept = record (x.kept) { shelf = y.kept.shelf } })
+      × IsSeen (spare_too it spare) profile new base y × (bytes_at y.kept.shelf it ≡ Some bytes)) (Ok t)) (sym back)
       (moves_as old new c.in_ok-id.field-0 id (c.in_ok-id.ensures.found profile spare) (λ base x it. it)
       (λ base x y it last. (
         same_but_shelf x y last.0,
-        inside_looser profile spare (spare_too id spare) new base y (λ tables h. holds_still spare (spare_too id spare) profile.version tables y h (keeps_looser spare tables y.kept y.content (kept_in spare spare profile.version tables y h) id)) last.1,
+        inside_looser profile spare (spare_too id spare) new base y
+            (λ tables h. holds_still spare (spare_too id spare) profile.version tables y h
+            (keeps_looser spare tables y.kept y.content (kept_in spare spare profile.version tables y h) id)) last.1,
         subst (IsFound y.kept.shelf bytes) c.in-Some.is last.2,
       )));
 }
@@ -40,13 +44,16 @@ returns-in-None g c = record {
       let old = state g.S.Store c.args.tx.now.conn.now in
       let new = state g.S.Store c.insert_blob.new.tx.conn.now in
       let bytes = c.args.bytes.now in
-      then_moves (λ base x it y. (y ≡ record x { kept = record (x.kept) { shelf = y.kept.shelf } }) × IsSeen (spare_too it spare) profile new base y × (bytes_at y.kept.shelf it ≡ Some bytes)) old _ new c.in_ok-id.field-0 c.insert_blob.result
+      then_moves (λ base x it y. (y ≡ record x { kept = record (x.kept) { shelf = y.kept.shelf } })
+      × IsSeen (spare_too it spare) profile new base y × (bytes_at y.kept.shelf it ≡ Some bytes)) old _ new
+      c.in_ok-id.field-0 c.insert_blob.result
       (c.in_ok-id.ensures.found profile spare) (c.insert_blob.ensures.put profile spare)
       (λ base x y it mid. (mid.1, subst (IsFound y.kept.shelf bytes) c.in-None.is mid.2))
       (λ base x y z id it mid last. (
         shelf_in x y z (insert y.kept.shelf id (blob_of bytes)) mid.0 last.0,
         last.1,
-        ap (λ (k : View). bytes_at k.kept.shelf id) last.0 ∙ ap (option_map (λ (b : Blob). b.bytes)) (at_put numbers y.kept.shelf id (blob_of bytes)),
+        ap (λ (k : View). bytes_at k.kept.shelf id) last.0
+            ∙ ap (option_map (λ (b : Blob). b.bytes)) (at_put numbers y.kept.shelf id (blob_of bytes)),
       ));
 }
 

@@ -19,10 +19,15 @@ returns g c = record {
       let old = state g.S.Store c.args.tx.now.conn.now in
       let new = state g.S.Store c.exists.new.tx.conn.now in
       let id = c.args.id in
-      looks profile old new _ _ spare (λ it first. it ≡ is_some first) (λ x it. TellsWhether (NamesBlob medium_id x.kept.media id) it) c.exists.result c.exists.ensures.asked (λ it first ready shown gives.
-      let read = selects_any _ _ _ _ _ _ statement.medium_of_blob old new ready.schema_is (Int id ∷ []) _ (search rules) first shown in (
+      looks profile old new _ _ spare (λ it first. it ≡ is_some first)
+      (λ x it. TellsWhether (NamesBlob medium_id x.kept.media id) it) c.exists.result c.exists.ensures.asked
+      (λ it first ready shown gives.
+      let read = selects_any _ _ _ _ _ _ statement.medium_of_blob old new ready.schema_is (Int id ∷ []) _ (search rules)
+      first shown in (
         read.0,
-        λ x h. told_names medium_id medium_row (seen old 19) x.kept.media (kept_in spare spare profile.version (seen old) x h).media id (at_id 3 id)
-            (λ r k i is. hits_id 3 id r (medium_id i) (columns_are r (medium_row k i) 2 is)) (λ r k i is. only_id 3 id r (medium_id i) (columns_are r (medium_row k i) 2 is)) it (sym (gives ∙ read.1)),
+        λ x h. told_names medium_id medium_row (seen old 19) x.kept.media
+            (kept_in spare spare profile.version (seen old) x h).media id (at_id 3 id)
+            (λ r k i is. hits_id 3 id r (medium_id i) (columns_are r (medium_row k i) 2 is))
+            (λ r k i is. only_id 3 id r (medium_id i) (columns_are r (medium_row k i) 2 is)) it (sym (gives ∙ read.1)),
       ));
 }

@@ -10,6 +10,9 @@ abbrev pub invariant-loop-row : goal.invariant-loop-row
 invariant-loop-row g l = record {
   same : l.tx.conn.ghost_name ≡ l.fn.tx.conn.ghost_name;
   goes : (profile : Profile) (spare : Spare)
-      → IsMove {T = Unit {0}} (state g.S.Store l.fn.tx.conn.now) (state g.S.Store l.tx.conn.now) (λ base x. IsTrue (state g.S.Store l.fn.tx.conn.now).is_open × IsSeen (spare_each l.fn.rows spare) profile (state g.S.Store l.fn.tx.conn.now) base x)
-      (λ base x _ y. (y ≡ record x { kept = record (x.kept) { shelf = y.kept.shelf } }) × IsSeen (spare_each (drop l.row-index l.fn.rows) spare) profile (state g.S.Store l.tx.conn.now) base y) (Ok tt);
+      → IsMove {T = Unit {0}} (state g.S.Store l.fn.tx.conn.now) (state g.S.Store l.tx.conn.now)
+      (λ base x. IsTrue (state g.S.Store l.fn.tx.conn.now).is_open × IsSeen (spare_each l.fn.rows spare) profile
+      (state g.S.Store l.fn.tx.conn.now) base x)
+      (λ base x _ y. (y ≡ record x { kept = record (x.kept) { shelf = y.kept.shelf } })
+      × IsSeen (spare_each (drop l.row-index l.fn.rows) spare) profile (state g.S.Store l.tx.conn.now) base y) (Ok tt);
 }

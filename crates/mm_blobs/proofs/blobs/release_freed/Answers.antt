@@ -18,8 +18,14 @@ returns-in-Some g c = record {
       let back : id ≡ c.in-Some.id = search (rules, to_z-of_z) in
       let freed = c.args.freed in
       let is : freed ≡ Some id = c.in-Some.is ∙ ap Some (sym back) in
-      moves_less (λ base x _ y. (y ≡ record x { kept = record (x.kept) { shelf = y.kept.shelf } }) × IsSeen spare profile new base y) _ new c.release.result (c.release.ensures.released profile (spare_freed freed spare)) (λ base x it. it.1)
-      (λ base x y t it last. (last.0, seen_looser (spare_but id (spare_freed freed spare)) spare profile new base y (freed_only freed id spare is) last.1));
+      moves_less (λ base x _ y. (y ≡ record x { kept = record (x.kept) { shelf = y.kept.shelf } })
+      × IsSeen spare profile new base y) _ new c.release.result
+      (c.release.ensures.released profile (spare_freed freed spare)) (λ base x it. it.1)
+      (λ base x y t it last. (
+        last.0,
+        seen_looser (spare_but id (spare_freed freed spare)) spare profile new base y
+            (freed_only freed id spare is) last.1,
+      ));
 }
 
 pub returns-in-None : goal.returns-in-None
@@ -28,7 +34,15 @@ returns-in-None g c = record {
   released = λ profile spare. record {
     survives = commits_nothing _;
     on = λ clean base x it. it.1.back;
-    moved = λ clean base x it. (it.0, x, (same_but_shelf x x refl, subst (λ o. IsSeen (spare_freed o spare) profile (state g.S.Store c.args.tx.now.conn.now) base x) c.in-None.is it.1));
+    moved = λ clean base x it. (
+      it.0,
+      x,
+      (
+        same_but_shelf x x refl,
+        subst (λ o. IsSeen (spare_freed o spare) profile (state g.S.Store c.args.tx.now.conn.now)
+            base x) c.in-None.is it.1,
+      ),
+    );
     faults = tt;
   };
 }

@@ -16,6 +16,12 @@ returns g c = record {
       let id = to_z w64 (of_z w64 c.in_ok-id.id) in
       let back : id ≡ c.in_ok-id.id = search (rules, to_z-of_z) in
       let each = spare_each (row ∷ []) spare in
-      moves_less (λ base x _ y. (y ≡ record x { kept = record (x.kept) { shelf = y.kept.shelf } }) × IsSeen spare profile new base y) _ new c.release.result (c.release.ensures.released profile each) (λ base x it. it)
-      (λ base x y t it last. (last.0, seen_looser (spare_but id each) spare profile new base y (released_one row spare id (c.in_ok-id.ensures.shown ∙ ap Int (sym back))) last.1));
+      moves_less (λ base x _ y. (y ≡ record x { kept = record (x.kept) { shelf = y.kept.shelf } })
+      × IsSeen spare profile new base y) _ new c.release.result (c.release.ensures.released profile each)
+      (λ base x it. it)
+      (λ base x y t it last. (
+        last.0,
+        seen_looser (spare_but id each) spare profile new base y
+            (released_one row spare id (c.in_ok-id.ensures.shown ∙ ap Int (sym back))) last.1,
+      ));
 }

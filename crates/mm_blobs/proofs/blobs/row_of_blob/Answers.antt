@@ -19,7 +19,13 @@ returns g c = record {
       let new = state g.S.Store c.first.new.tx.conn.now in
       let id = c.args.id in
       let params = Int id ∷ [] in
-      looks profile old new _ _ spare (λ (it : Option Row) first. it ≡ first) (λ x row. ShowsBytes (bytes_at x.kept.shelf id) row) c.first.result c.first.ensures.asked (λ it first ready shown gives.
-      let read = selects_one _ _ _ _ _ _ statement.bytes_of_blob old new ready.schema_is params _ (search rules) first shown in
-      (read.0, λ x h. bytes_found (seen old 27) x.kept.shelf (kept_in spare spare profile.version (seen old) x h).blobs id params it first gives read.1));
+      looks profile old new _ _ spare (λ (it : Option Row) first. it ≡ first)
+      (λ x row. ShowsBytes (bytes_at x.kept.shelf id) row) c.first.result c.first.ensures.asked
+      (λ it first ready shown gives.
+      let read = selects_one _ _ _ _ _ _ statement.bytes_of_blob old new ready.schema_is params _ (search rules) first
+      shown in (
+        read.0,
+        λ x h. bytes_found (seen old 27) x.kept.shelf (kept_in spare spare profile.version (seen old) x h).blobs
+            id params it first gives read.1,
+      ));
 }

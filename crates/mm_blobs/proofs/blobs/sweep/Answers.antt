@@ -13,8 +13,14 @@ returns g c = record {
   released = λ profile spare.
       let mid = state g.S.Store c.unnamed_blobs.new.tx.conn.now in
       let new = state g.S.Store c.release_each.new.tx.conn.now in
-      then_moves_open (λ base x _ y. (y ≡ record x { kept = record (x.kept) { shelf = y.kept.shelf } }) × IsSeen no_spare profile new base y) _ mid new c.in_ok-rows.rows c.release_each.result (c.in_ok-rows.ensures.listed profile spare) (c.release_each.ensures.released profile no_spare)
-      (λ base x y up it last. (up, subst (λ rs. IsSeen (spare_each rs no_spare) profile mid base y) (sym c.as_slice.ensures.value) last.1))
+      then_moves_open (λ base x _ y. (y ≡ record x { kept = record (x.kept) { shelf = y.kept.shelf } })
+      × IsSeen no_spare profile new base y) _ mid new c.in_ok-rows.rows c.release_each.result
+      (c.in_ok-rows.ensures.listed profile spare) (c.release_each.ensures.released profile no_spare)
+      (λ base x y up it last. (
+        up,
+        subst (λ rs. IsSeen (spare_each rs no_spare) profile mid base y)
+            (sym c.as_slice.ensures.value) last.1,
+      ))
       (λ base x y z u it first last. (shelf_again x y z (same_but_shelf x y first.0) last.0, last.1));
 }
 

@@ -16,10 +16,15 @@ returns g c = record {
   listed = λ profile spare.
       let old = state g.S.Store c.args.tx.now.conn.now in
       let new = state g.S.Store c.all.new.tx.conn.now in
-      moves_less (λ base x rows y. (y ≡ x) × IsSeen (spare_each rows.items no_spare) profile new base y) old new c.all.result
-      (lists profile old new _ _ spare (λ rows. rows.items) (λ x rows. (z : ℤ) (b : Blob) → get x.kept.shelf z ≡ Some b → IsNamed x.kept z ⊎ (spare_each rows.items no_spare z ≡ true)) c.all.result c.all.ensures.listed (λ rows ready shown. (
+      moves_less (λ base x rows y. (y ≡ x) × IsSeen (spare_each rows.items no_spare) profile new base y) old new
+      c.all.result
+      (lists profile old new _ _ spare (λ rows. rows.items) (λ x rows. (z : ℤ) (b : Blob) → get x.kept.shelf z ≡ Some b
+      → IsNamed x.kept z ⊎ (spare_each rows.items no_spare z ≡ true)) c.all.result c.all.ensures.listed
+      (λ rows ready shown. (
         unnamed_same old new ready.schema_is _ (search rules) rows.items shown,
-        λ x h z b is. each_named old new ready.schema_is _ (search rules) rows.items shown spare x.kept x.content (kept_in spare spare profile.version (seen old) x h) z b is,
+        λ x h z b is. each_named old new ready.schema_is _ (search rules) rows.items shown spare x.kept x.content
+            (kept_in spare spare profile.version (seen old) x h) z b is,
       )))
-      (λ base x it. it) (λ base x y rows it last. (last.0, seen_named spare (spare_each rows.items no_spare) profile new base y last.2 last.1));
+      (λ base x it. it) (λ base x y rows it last.
+      (last.0, seen_named spare (spare_each rows.items no_spare) profile new base y last.2 last.1));
 }

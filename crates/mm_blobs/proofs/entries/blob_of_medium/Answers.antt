@@ -24,9 +24,13 @@ returns g c = record {
       let a = c.args in
       let key = item a.table.now a.id in
       let params = Words key.table ∷ Int key.id ∷ [] in
-      looks profile old new _ _ spare GivesNumber (λ x it. option_map (λ (m : MediumRow). m.blob) (get x.kept.media key) ≡ it) c.first_number.result c.first_number.ensures.asked (λ it first ready shown gives.
-      let read = selects_one _ _ _ _ _ _ statement.blob_of_medium old new ready.schema_is params _ (search rules) first shown in (
+      looks profile old new _ _ spare GivesNumber (λ x it. option_map (λ (m : MediumRow). m.blob) (get x.kept.media key)
+      ≡ it) c.first_number.result c.first_number.ensures.asked (λ it first ready shown gives.
+      let read = selects_one _ _ _ _ _ _ statement.blob_of_medium old new ready.schema_is params _ (search rules) first
+      shown in (
         read.0,
-        λ x h. id_found parts.media (seen old 19) x.kept.media (kept_in spare spare profile.version (seen old) x h).media key (shows (col 1 3 ∷ []) params) (λ (m : MediumRow). m.blob) (λ r i is. columns_are r (medium_row key i) 2 is) it first gives read.1,
+        λ x h. id_found parts.media (seen old 19) x.kept.media
+            (kept_in spare spare profile.version (seen old) x h).media key (shows (col 1 3 ∷ []) params)
+            (λ (m : MediumRow). m.blob) (λ r i is. columns_are r (medium_row key i) 2 is) it first gives read.1,
       ));
 }

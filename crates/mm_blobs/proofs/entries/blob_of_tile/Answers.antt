@@ -26,12 +26,17 @@ returns g c = record {
       let a = c.args in
       let key = tile_at a.table.now a.place in
       let params = Words key.table ∷ Int key.zoom ∷ Int key.column ∷ Int key.row ∷ [] in
-      looks profile old new _ _ spare GivesNumber (λ x it. (get x.kept.tiles key ≡ it) × Told tile_id tile_with x.kept.shelf it (get x.content.tiles key)) c.first_number.result c.first_number.ensures.asked (λ it first ready shown gives.
-      let read = selects_one _ _ _ _ _ _ statement.blob_of_tile old new ready.schema_is params _ (search rules) first shown in (
+      looks profile old new _ _ spare GivesNumber
+      (λ x it. (get x.kept.tiles key ≡ it) × Told tile_id tile_with x.kept.shelf it (get x.content.tiles key))
+      c.first_number.result c.first_number.ensures.asked (λ it first ready shown gives.
+      let read = selects_one _ _ _ _ _ _ statement.blob_of_tile old new ready.schema_is params _ (search rules) first
+      shown in (
         read.0,
         λ x h.
             let kept = kept_in spare spare profile.version (seen old) x h in
-            let is : get x.kept.tiles key ≡ it = sym (as_it_is (get x.kept.tiles key)) ∙ id_found parts.tiles (seen old 15) x.kept.tiles kept.tiles key (shows (col 1 5 ∷ []) params) (λ blob. blob) (λ r i is. columns_are r (tile_row key i) 4 is) it first gives read.1 in
+            let is : get x.kept.tiles key ≡ it = sym (as_it_is (get x.kept.tiles key))
+            ∙ id_found parts.tiles (seen old 15) x.kept.tiles kept.tiles key (shows (col 1 5 ∷ []) params)
+            (λ blob. blob) (λ r i is. columns_are r (tile_row key i) 4 is) it first gives read.1 in
             (is, subst (λ o. Told tile_id tile_with x.kept.shelf o (get x.content.tiles key)) is (kept.tiles_told key)),
       ));
 }

@@ -9,4 +9,5 @@ use Rattle.mm_check.proofs.form.blobs_are_apart.Goals as goal
 pub returns : goal.returns
 returns g c =
     forms query.apart_text (λ _. ⊥) _ _ _ _ _ query.apart query.quiet_apart AreApart rule.apart
-    (state g.S.Store c.args.conn.now) (state g.S.Store c.each_passes.new.conn) [] refl c.each_passes.result c.each_passes.ensures
+    (state g.S.Store c.args.conn.now) (state g.S.Store c.each_passes.new.conn) [] refl c.each_passes.result
+    c.each_passes.ensures

@@ -51,13 +51,15 @@ pub returns-in-7 : goal.returns-in-7
 unfolding rule
 returns-in-7 g c = as_rule (profile_of c.args.unit) (state g.S.Store c.args.conn.now)
     (state g.S.Store c.matrices_fit.new.conn) (λ _. ⊤) (λ p. MatricesFit p.kinds p.sets p.matrices) c.args.k 7
-    c.in-7.is (λ p before. tt) (λ p. (λ h. h, λ h. h)) c.matrices_fit.result (c.matrices_fit.ensures (profile_of c.args.unit))
+    c.in-7.is (λ p before. tt) (λ p. (λ h. h, λ h. h)) c.matrices_fit.result
+    (c.matrices_fit.ensures (profile_of c.args.unit))
 
 pub returns-in-8 : goal.returns-in-8
 unfolding rule
 returns-in-8 g c = as_rule (profile_of c.args.unit) (state g.S.Store c.args.conn.now)
     (state g.S.Store c.higher_is_finer.new.conn) (λ _. ⊤) (λ p. HigherIsFiner p.matrices) c.args.k 8 c.in-8.is
-    (λ p before. tt) (λ p. (λ h. h, λ h. h)) c.higher_is_finer.result (c.higher_is_finer.ensures (profile_of c.args.unit))
+    (λ p before. tt) (λ p. (λ h. h, λ h. h)) c.higher_is_finer.result
+    (c.higher_is_finer.ensures (profile_of c.args.unit))
 
 pub returns-in-9 : goal.returns-in-9
 unfolding rule
@@ -95,7 +97,8 @@ pub returns-in-14 : goal.returns-in-14
 unfolding rule
 returns-in-14 g c = as_rule (profile_of c.args.unit) (state g.S.Store c.args.conn.now)
     (state g.S.Store c.extensions.new.conn) (λ _. ⊤) (λ p. ExactExtensions p.kinds p.relations p.extensions) c.args.k
-    14 c.in-14.is (λ p before. tt) (λ p. (λ h. h, λ h. h)) c.extensions.result (c.extensions.ensures (profile_of c.args.unit))
+    14 c.in-14.is (λ p before. tt) (λ p. (λ h. h, λ h. h)) c.extensions.result
+    (c.extensions.ensures (profile_of c.args.unit))
 
 pub returns-in-15 : goal.returns-in-15
 unfolding rule

@@ -11,5 +11,7 @@ use Rattle.mm_column_limits.proofs.editions.edition_states.Goals as goal
 
 pub returns : goal.returns
 returns g c profile =
-    checks text.edition_states [] IsStateRow _ _ _ _ _ query.edition_states query.quiet_edition_states (λ p. Limits profile p) (λ p. EditionStates p) (rule.edition_states profile) profile
-    (state g.S.Store c.args.conn.now) (state g.S.Store c.each_passes.new.conn) [] refl c.each_passes.result c.each_passes.ensures
+    checks text.edition_states [] IsStateRow _ _ _ _ _ query.edition_states query.quiet_edition_states
+    (λ p. Limits profile p) (λ p. EditionStates p) (rule.edition_states profile) profile
+    (state g.S.Store c.args.conn.now) (state g.S.Store c.each_passes.new.conn) [] refl c.each_passes.result
+    c.each_passes.ensures

@@ -11,5 +11,7 @@ use Rattle.mm_column_limits.proofs.editions.pieces_numbered.Goals as goal
 
 pub returns : goal.returns
 returns g c profile =
-    checks text.pieces_numbered [] IsNumberedRow _ _ _ _ _ query.pieces_numbered query.quiet_pieces_numbered (λ p. Limits profile p) (λ p. PiecesNumbered p) (rule.pieces_numbered profile) profile
-    (state g.S.Store c.args.conn.now) (state g.S.Store c.each_passes.new.conn) [] refl c.each_passes.result c.each_passes.ensures
+    checks text.pieces_numbered [] IsNumberedRow _ _ _ _ _ query.pieces_numbered query.quiet_pieces_numbered
+    (λ p. Limits profile p) (λ p. PiecesNumbered p) (rule.pieces_numbered profile) profile
+    (state g.S.Store c.args.conn.now) (state g.S.Store c.each_passes.new.conn) [] refl c.each_passes.result
+    c.each_passes.ensures

@@ -11,5 +11,7 @@ use Rattle.mm_column_limits.proofs.editions.pieces_of_open.Goals as goal
 
 pub returns : goal.returns
 returns g c profile =
-    checks text.pieces_of_open [] IsOpenRow _ _ _ _ _ query.pieces_of_open query.quiet_pieces_of_open (λ p. Limits profile p) (λ p. PiecesOfOpen p) (rule.pieces_of_open profile) profile
-    (state g.S.Store c.args.conn.now) (state g.S.Store c.each_passes.new.conn) [] refl c.each_passes.result c.each_passes.ensures
+    checks text.pieces_of_open [] IsOpenRow _ _ _ _ _ query.pieces_of_open query.quiet_pieces_of_open
+    (λ p. Limits profile p) (λ p. PiecesOfOpen p) (rule.pieces_of_open profile) profile
+    (state g.S.Store c.args.conn.now) (state g.S.Store c.each_passes.new.conn) [] refl c.each_passes.result
+    c.each_passes.ensures

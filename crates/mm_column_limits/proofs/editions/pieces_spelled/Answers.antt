@@ -16,4 +16,5 @@ returns g c =
     query.quiet_pieces_spelled (λ p. Limits (profile_of c.args.unit) p)
     (λ p. PiecesSpelled (profile_of c.args.unit) p) (rule.pieces_spelled (profile_of c.args.unit))
     (profile_of c.args.unit)
-    (state g.S.Store c.args.conn.now) (state g.S.Store c.each_passes.new.conn) [] refl c.each_passes.result c.each_passes.ensures
+    (state g.S.Store c.args.conn.now) (state g.S.Store c.each_passes.new.conn) [] refl c.each_passes.result
+    c.each_passes.ensures

@@ -11,13 +11,15 @@ parts-init g c = no_part (profile_of c.args.unit) (AreFew c.args.longest) (state
 
 pub parts-preserved : goal.parts-preserved
 parts-preserved g c =
-    part_passes (profile_of c.args.unit) (AreFew c.args.longest) (state g.S.Store c.args.conn.now) (state g.S.Store c.parts.conn)
+    part_passes (profile_of c.args.unit) (AreFew c.args.longest) (state g.S.Store c.args.conn.now)
+    (state g.S.Store c.parts.conn)
     (state g.S.Store c.one_limit.new.conn) c.parts.k c.parts.invariant
     (Ok c.in_ok-one_limit.field-0) refl c.if-not-branch.false c.in_ok-one_limit.ensures
 
 pub returns-then-not-branch : goal.returns-then-not-branch
 returns-then-not-branch g c =
-    part_stops (profile_of c.args.unit) (AreFew c.args.longest) (state g.S.Store c.args.conn.now) (state g.S.Store c.parts.conn)
+    part_stops (profile_of c.args.unit) (AreFew c.args.longest) (state g.S.Store c.args.conn.now)
+    (state g.S.Store c.parts.conn)
     (state g.S.Store c.one_limit.new.conn) c.parts.k c.parts.invariant
     (Ok c.in_ok-one_limit.field-0) refl c.if-not-branch.true c.in_ok-one_limit.ensures
 
@@ -32,4 +34,5 @@ pub returns : goal.returns
 returns g c =
     let most : c.parts.k ≤ 14 = c.parts.auto.k-end (omega arith) in
     let end : c.parts.k ≡ 14 = (let f = c.parts-test.false in omega (arith, f, most)) in
-    parts_pass (profile_of c.args.unit) (AreFew c.args.longest) (state g.S.Store c.args.conn.now) (state g.S.Store c.parts.conn) c.parts.k end c.parts.invariant
+    parts_pass (profile_of c.args.unit) (AreFew c.args.longest) (state g.S.Store c.args.conn.now)
+    (state g.S.Store c.parts.conn) c.parts.k end c.parts.invariant

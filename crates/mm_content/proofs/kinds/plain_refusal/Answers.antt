@@ -9,7 +9,8 @@ pub returns-in_default : goal.returns-in_default
 returns-in_default g c =
     let a = c.args in
     tells c.in_ok-kind.ensures
-    (λ profile p says meets. kind_25 p a.table.now profile meets (has_kind p.kinds a.table.now (plain_kind a.asked)) (says ∙ ap (option_map kind_text) c.in_default.is))
+    (λ profile p says meets. kind_25 p a.table.now profile meets (has_kind p.kinds a.table.now (plain_kind a.asked))
+    (says ∙ ap (option_map kind_text) c.in_default.is))
 
 pub returns-in_err-kind : goal.returns-in_err-kind
 returns-in_err-kind g c =
@@ -19,10 +20,12 @@ pub returns-then-suits : goal.returns-then-suits
 returns-then-suits g c =
     let a = c.args in
     tells c.in_ok-kind.ensures
-    (λ profile p says meets. plain_free p a.table.now profile meets c.in-Some.kind (says ∙ ap (option_map kind_text) c.in-Some.is) a.asked (sym c.suits.ensures ∙ c.if-suits.true))
+    (λ profile p says meets. plain_free p a.table.now profile meets c.in-Some.kind
+    (says ∙ ap (option_map kind_text) c.in-Some.is) a.asked (sym c.suits.ensures ∙ c.if-suits.true))
 
 pub returns-else-suits : goal.returns-else-suits
 returns-else-suits g c =
     let a = c.args in
     tells c.in_ok-kind.ensures
-    (λ profile p says meets. plain_26 p a.table.now profile meets c.in-Some.kind (says ∙ ap (option_map kind_text) c.in-Some.is) a.asked (sym c.suits.ensures ∙ c.if-suits.false))
+    (λ profile p says meets. plain_26 p a.table.now profile meets c.in-Some.kind
+    (says ∙ ap (option_map kind_text) c.in-Some.is) a.asked (sym c.suits.ensures ∙ c.if-suits.false))

@@ -21,5 +21,6 @@ returns g c =
     (search rules) first shown in (
       read.0,
       λ version p h. gives ∙ some_paired p table id (seen old 10) (seen old 21) h.relations h.pairings
-          (λ (v : Relation). v.base) (λ (k : Pairing). k.base_id) (joins_by 2 2 table id) (base_tells table id) first read.1,
+          (λ (v : Relation). v.base) (λ (k : Pairing). k.base_id) (joins_by 2 2 table id) (base_tells table id) first
+          read.1,
     ))

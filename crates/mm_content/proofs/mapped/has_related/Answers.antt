@@ -21,5 +21,6 @@ returns g c =
     (Words table ∷ Int id ∷ []) _ (search rules) first shown in (
       read.0,
       λ version p h. gives ∙ some_paired p table id (seen old 10) (seen old 21) h.relations h.pairings
-          (λ (v : Relation). v.related) (λ (k : Pairing). k.related_id) (joins_by 4 3 table id) (related_tells table id) first read.1,
+          (λ (v : Relation). v.related) (λ (k : Pairing). k.related_id) (joins_by 4 3 table id) (related_tells table id)
+          first read.1,
     ))

@@ -13,14 +13,23 @@ returns-then-branch g c =
     let table = c.args.table.now in
     let id = c.args.id in
     tells (rw (to_z-of_z c.ranges.id) at c.in_ok-has_base.ensures)
-    (λ profile p says. sym (sym (mapped_by p table id) ∙ ap (λ b. b || some_entry (λ (k : Pairing) _. at_value (λ (r : Relation). same_text r.related table && same_number k.related_id id) (get p.relations k.mapping)) p.pairings) (sym says ∙ c.if-branch.true)))
+    (λ profile p says. sym (sym (mapped_by p table id)
+    ∙ ap (λ b. b || some_entry (λ (k : Pairing) _. at_value (λ (r : Relation). same_text r.related table
+    && same_number k.related_id id) (get p.relations k.mapping)) p.pairings) (sym says ∙ c.if-branch.true)))
 
 pub returns-else-branch : goal.returns-else-branch
 returns-else-branch g c =
     let table = c.args.table.now in
     let id = c.args.id in
-    goes_less (goes_on (rw (to_z-of_z c.ranges.id) at c.in_ok-has_base.ensures) (rw (to_z-of_z c.ranges.id) at c.has_related.ensures))
-    (λ profile p found when says. (refl, says.1 ∙ sym (sym (mapped_by p table id) ∙ ap (λ b. b || some_entry (λ (k : Pairing) _. at_value (λ (r : Relation). same_text r.related table && same_number k.related_id id) (get p.relations k.mapping)) p.pairings) (sym says.0 ∙ c.if-branch.false))))
+    goes_less (goes_on (rw (to_z-of_z c.ranges.id) at c.in_ok-has_base.ensures)
+    (rw (to_z-of_z c.ranges.id) at c.has_related.ensures))
+    (λ profile p found when says. (
+      refl,
+      says.1
+          ∙ sym (sym (mapped_by p table id)
+          ∙ ap (λ b. b || some_entry (λ (k : Pairing) _. at_value (λ (r : Relation). same_text r.related table
+          && same_number k.related_id id) (get p.relations k.mapping)) p.pairings) (sym says.0 ∙ c.if-branch.false)),
+    ))
 
 pub returns-in_err-has_base : goal.returns-in_err-has_base
 returns-in_err-has_base g c =

@@ -26,11 +26,16 @@ returns g c = record {
       let a = c.args in
       let key = item a.table.now a.id in
       let more = spare_freed stands spare in
-      moves_run profile old new _ _ spare (λ db. with_tree db 19 (without (by_item key) (db 19))) (λ x. option_map (λ (m : MediumRow). m.blob) (get x.kept.media key) ≡ stands) (without_medium key) more c.run.result c.run.ensures.run
-      (λ count ready h. has_deleted _ _ _ _ _ statement.delete_medium old new ready (Words key.table ∷ Int key.id ∷ []) _ (search rules) (Ok count) h)
+      moves_run profile old new _ _ spare (λ db. with_tree db 19 (without (by_item key) (db 19)))
+      (λ x. option_map (λ (m : MediumRow). m.blob) (get x.kept.media key) ≡ stands) (without_medium key) more
+      c.run.result c.run.ensures.run
+      (λ count ready h. has_deleted _ _ _ _ _ statement.delete_medium old new ready (Words key.table ∷ Int key.id ∷ [])
+      _ (search rules) (Ok count) h)
       (λ ready x h stood.
       let kept = kept_in spare spare profile.version (seen old) x h in
       holds_media spare more profile.version (seen old) x h _ _ (remove x.content.media key)
-      (keeps_no_medium spare more (seen old) x.kept x.content kept _ key (removes parts.media (seen old 19) x.kept.media kept.media key) (freed_before stands spare)
-      (λ z named. freed_at stands spare z (sym stood ∙ ap (option_map (λ (m : MediumRow). m.blob)) named.1 ∙ named.2))));
+      (keeps_no_medium spare more (seen old) x.kept x.content kept _ key
+      (removes parts.media (seen old 19) x.kept.media kept.media key) (freed_before stands spare)
+      (λ z named. freed_at stands spare z (sym stood ∙ ap (option_map (λ (m : MediumRow). m.blob)) named.1
+      ∙ named.2))));
 }

@@ -34,13 +34,17 @@ returns g c = record {
       let value = medium_of id a.content_type.now in
       let row = medium_row key value in
       let more = spare_but id spare in
-      moves_run profile old new _ _ spare (λ db. with_tree db 19 (put_row (Int (next_rowid (db 19)) ∷ row) (db 19))) (λ x. (bytes_at x.kept.shelf id ≡ Some bytes) × (medium_names key x ≡ None)) (with_medium key value bytes) more
-      c.run.result c.run.ensures.run (λ count ready h. has_inserted _ _ _ _ _ _ statement.insert_medium old new ready row _ (Ok count) Null row refl refl refl (search rules) h)
+      moves_run profile old new _ _ spare (λ db. with_tree db 19 (put_row (Int (next_rowid (db 19)) ∷ row) (db 19)))
+      (λ x. (bytes_at x.kept.shelf id ≡ Some bytes) × (medium_names key x ≡ None)) (with_medium key value bytes) more
+      c.run.result c.run.ensures.run (λ count ready h. has_inserted _ _ _ _ _ _ statement.insert_medium old new ready
+      row _ (Ok count) Null row refl refl refl (search rules) h)
       (λ ready x h when.
       let free = stands_none (get x.kept.media key) when.1 in
       let kept = kept_in spare spare profile.version (seen old) x h in
       holds_media spare more profile.version (seen old) x h _ _ (insert x.content.media key (medium_with value bytes))
       (keeps_medium spare more (seen old) x.kept x.content kept _ key value bytes
-      (puts parts.media (seen old 19) x.kept.media kept.media key value (Int (next_rowid (seen old 19)) ∷ row) free refl (chosen_is_free (seen old 19) row (ready.rows 19))) when.0
-      (λ z spared other. but_other spare id z (λ e. other (ap Some (sym e))) spared) (λ z named other. absurd (not_none named.1 free))));
+      (puts parts.media (seen old 19) x.kept.media kept.media key value (Int (next_rowid (seen old 19)) ∷ row) free refl
+      (chosen_is_free (seen old 19) row (ready.rows 19))) when.0
+      (λ z spared other. but_other spare id z (λ e. other (ap Some (sym e))) spared)
+      (λ z named other. absurd (not_none named.1 free))));
 }

@@ -35,14 +35,21 @@ returns g c = record {
       let value = medium_of id a.content_type.now in
       let params = medium_row key value in
       let more = spare_too was (spare_but id spare) in
-      moves_run profile old new _ _ spare (λ db. with_tree db 19 (with_changed (by_item key) (updated mm_media medium_sets params) (db 19))) (λ x. (bytes_at x.kept.shelf id ≡ Some bytes) × (option_map (λ (m : MediumRow). m.blob) (get x.kept.media key) ≡ Some was)) (with_medium key value bytes) more
-      c.run.result c.run.ensures.run (λ count ready h. has_changed _ _ _ _ _ _ statement.update_medium old new ready params _ (Ok count) (search rules) h)
+      moves_run profile old new _ _ spare
+      (λ db. with_tree db 19 (with_changed (by_item key) (updated mm_media medium_sets params) (db 19)))
+      (λ x. (bytes_at x.kept.shelf id ≡ Some bytes)
+      × (option_map (λ (m : MediumRow). m.blob) (get x.kept.media key) ≡ Some was)) (with_medium key value bytes) more
+      c.run.result c.run.ensures.run (λ count ready h. has_changed _ _ _ _ _ _ statement.update_medium old new ready
+      params _ (Ok count) (search rules) h)
       (λ ready x h when.
       let kept = kept_in spare spare profile.version (seen old) x h in
       let at = stands_at (get x.kept.media key) was when.1 in
       holds_media spare more profile.version (seen old) x h _ _ (insert x.content.media key (medium_with value bytes))
       (keeps_medium spare more (seen old) x.kept x.content kept _ key value bytes
-      (changes parts.media (seen old 19) x.kept.media kept.media key (updated mm_media medium_sets params) at.0 value at.1 (medium_changed key at.0 value)) when.0
-      (λ z spared other. too_before (spare_but id spare) was z (but_other spare id z (λ e. other (ap Some (sym e))) spared))
-      (λ z named other. ap more (same_some (sym named.2 ∙ ap (option_map (λ (m : MediumRow). m.blob)) (sym named.1) ∙ when.1)) ∙ too_itself (spare_but id spare) was)));
+      (changes parts.media (seen old 19) x.kept.media kept.media key (updated mm_media medium_sets params) at.0 value
+      at.1 (medium_changed key at.0 value)) when.0
+      (λ z spared other. too_before (spare_but id spare) was z
+      (but_other spare id z (λ e. other (ap Some (sym e))) spared))
+      (λ z named other. ap more (same_some (sym named.2 ∙ ap (option_map (λ (m : MediumRow). m.blob)) (sym named.1)
+      ∙ when.1)) ∙ too_itself (spare_but id spare) was)));
 }

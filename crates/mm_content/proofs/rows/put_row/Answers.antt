@@ -16,14 +16,19 @@ returns-in_err-number g c =
 
 pub returns-in_err-write_row : goal.returns-in_err-write_row
 returns-in_err-write_row g c =
-    command_failed (next_change c.in_ok-number.ensures c.in_err-write_row.ensures) c.from_residual-in_err-write_row.ensures.1
+    command_failed (next_change c.in_ok-number.ensures c.in_err-write_row.ensures)
+    c.from_residual-in_err-write_row.ensures.1
 
 pub returns : goal.returns
 returns g c =
-    rw (← c.as_str-table.ensures.text) (does (next_change (next_change c.in_ok-number.ensures (rw (to_z-of_z c.ranges.id, to_z-of_z c.ranges.amount) at c.in_ok-write_row.ensures)) c.in_ok-set_last_change.ensures)
+    rw (← c.as_str-table.ensures.text)
+    (does (next_change (next_change c.in_ok-number.ensures
+    (rw (to_z-of_z c.ranges.id, to_z-of_z c.ranges.amount) at c.in_ok-write_row.ensures))
+    c.in_ok-set_last_change.ensures)
     (λ profile p meets says. (accepted_for _ (sym (says meets) ∙ c.in_default.is), refl)))
 
 pub returns-in_err-set_last_change : goal.returns-in_err-set_last_change
 returns-in_err-set_last_change g c =
-    command_failed (next_change (next_change c.in_ok-number.ensures c.in_ok-write_row.ensures) c.in_err-set_last_change.ensures)
+    command_failed (next_change (next_change c.in_ok-number.ensures c.in_ok-write_row.ensures)
+    c.in_err-set_last_change.ensures)
     c.from_residual-in_err-set_last_change.ensures.1

@@ -18,7 +18,8 @@ pub returns-then-not-branch : goal.returns-then-not-branch
 returns-then-not-branch g c =
     let a = c.args in
     tells (goes_on c.in_ok-number.ensures (rw (to_z-of_z c.ranges.id) at c.in_ok-has_row.ensures))
-    (λ profile p says meets. row_drop_40 p a.table.now a.id (sym c.in_default.is ∙ says.0 meets) (sym says.1 ∙ c.if-not-branch.true))
+    (λ profile p says meets. row_drop_40 p a.table.now a.id (sym c.in_default.is ∙ says.0 meets)
+    (sym says.1 ∙ c.if-not-branch.true))
 
 pub returns-in_err-has_row : goal.returns-in_err-has_row
 returns-in_err-has_row g c =
@@ -27,14 +28,18 @@ returns-in_err-has_row g c =
 pub returns-then-branch : goal.returns-then-branch
 returns-then-branch g c =
     let a = c.args in
-    tells (goes_on (goes_on c.in_ok-number.ensures (rw (to_z-of_z c.ranges.id) at c.in_ok-has_row.ensures)) (rw (to_z-of_z c.ranges.id) at c.in_ok-is_mapped.ensures))
-    (λ profile p says meets. row_drop_42 p a.table.now a.id (sym c.in_default.is ∙ says.0.0 meets) (sym says.0.1 ∙ c.if-not-branch.false) (sym says.1 ∙ c.if-branch.true))
+    tells (goes_on (goes_on c.in_ok-number.ensures (rw (to_z-of_z c.ranges.id) at c.in_ok-has_row.ensures))
+    (rw (to_z-of_z c.ranges.id) at c.in_ok-is_mapped.ensures))
+    (λ profile p says meets. row_drop_42 p a.table.now a.id (sym c.in_default.is ∙ says.0.0 meets)
+    (sym says.0.1 ∙ c.if-not-branch.false) (sym says.1 ∙ c.if-branch.true))
 
 pub returns-else-branch : goal.returns-else-branch
 returns-else-branch g c =
     let a = c.args in
-    tells (goes_on (goes_on c.in_ok-number.ensures (rw (to_z-of_z c.ranges.id) at c.in_ok-has_row.ensures)) (rw (to_z-of_z c.ranges.id) at c.in_ok-is_mapped.ensures))
-    (λ profile p says meets. row_drop_free p a.table.now a.id (sym c.in_default.is ∙ says.0.0 meets) (sym says.0.1 ∙ c.if-not-branch.false) (sym says.1 ∙ c.if-branch.false))
+    tells (goes_on (goes_on c.in_ok-number.ensures (rw (to_z-of_z c.ranges.id) at c.in_ok-has_row.ensures))
+    (rw (to_z-of_z c.ranges.id) at c.in_ok-is_mapped.ensures))
+    (λ profile p says meets. row_drop_free p a.table.now a.id (sym c.in_default.is ∙ says.0.0 meets)
+    (sym says.0.1 ∙ c.if-not-branch.false) (sym says.1 ∙ c.if-branch.false))
 
 pub returns-in_err-is_mapped : goal.returns-in_err-is_mapped
 returns-in_err-is_mapped g c =

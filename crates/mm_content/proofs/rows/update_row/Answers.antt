@@ -24,4 +24,5 @@ returns g c =
     (λ version db p h stands.
     let was = some_of (get p.rows key) stands in
     put_rows version db p h _ _
-    (part.changes parts.rows (db 17) p.rows h.rows key (updated mm_rows row_sets params) was.0 value was.1 (row_changed key was.0 value)))
+    (part.changes parts.rows (db 17) p.rows h.rows key (updated mm_rows row_sets params) was.0 value was.1
+    (row_changed key was.0 value)))

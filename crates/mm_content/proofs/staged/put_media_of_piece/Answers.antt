@@ -12,21 +12,27 @@ returns-in-Some g c =
     (λ bytes profile p meets says. refused_for _ c.in-Some.number (sym (says meets) ∙ c.in-Some.is)))
 
 pub returns-in_err-number : goal.returns-in_err-number
-returns-in_err-number g c = command_fails_for (λ bytes. goes_given c.in_err-number.ensures (λ profile p it. tt)) c.from_residual.ensures.1
+returns-in_err-number g c = command_fails_for (λ bytes. goes_given c.in_err-number.ensures (λ profile p it. tt))
+    c.from_residual.ensures.1
 
 pub returns-in_err-write_medium_of_piece : goal.returns-in_err-write_medium_of_piece
 returns-in_err-write_medium_of_piece g c =
-    rw (← c.as_str.ensures.text) (command_fails_for (change_for c.in_ok-number.ensures c.in_err-write_medium_of_piece.ensures)
+    rw (← c.as_str.ensures.text) (command_fails_for
+    (change_for c.in_ok-number.ensures c.in_err-write_medium_of_piece.ensures)
     c.from_residual-in_err-write_medium_of_piece.ensures.1)
 
 pub returns : goal.returns
 returns g c =
     rw (← c.as_str-table.ensures.text, ← c.as_str.ensures.text)
-    (does_for (λ bytes. next_change (change_for c.in_ok-number.ensures (rw (to_z-of_z c.ranges.id) at c.in_ok-write_medium_of_piece.ensures) bytes) c.in_ok-set_last_change.ensures)
+    (does_for (λ bytes. next_change
+    (change_for c.in_ok-number.ensures (rw (to_z-of_z c.ranges.id) at c.in_ok-write_medium_of_piece.ensures) bytes)
+    c.in_ok-set_last_change.ensures)
     (λ bytes profile p meets says. (accepted_for _ (sym (says meets) ∙ c.in_default.is), refl)))
 
 pub returns-in_err-set_last_change : goal.returns-in_err-set_last_change
 returns-in_err-set_last_change g c =
     rw (← c.as_str.ensures.text)
-    (command_fails_for (λ bytes. next_change (change_for c.in_ok-number.ensures (rw (to_z-of_z c.ranges.id) at c.in_ok-write_medium_of_piece.ensures) bytes) c.in_err-set_last_change.ensures)
+    (command_fails_for (λ bytes. next_change
+    (change_for c.in_ok-number.ensures (rw (to_z-of_z c.ranges.id) at c.in_ok-write_medium_of_piece.ensures) bytes)
+    c.in_err-set_last_change.ensures)
     c.from_residual-in_err-set_last_change.ensures.1)

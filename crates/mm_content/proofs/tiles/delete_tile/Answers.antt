@@ -8,7 +8,8 @@ returns-in_err-stands g c = finds_failed c.in_err-stands.ensures c.from_residual
 
 pub returns : goal.returns
 returns g c =
-    removes c.in_ok-stands.ensures _ (λ v says. says.0) c.in_ok-delete_tile_row.ensures c.release_freed.ensures (λ v. refl)
+    removes c.in_ok-stands.ensures _ (λ v says. says.0) c.in_ok-delete_tile_row.ensures c.release_freed.ensures
+    (λ v. refl)
 
 pub returns-in_err-delete_tile_row : goal.returns-in_err-delete_tile_row
 returns-in_err-delete_tile_row g c =

@@ -25,11 +25,14 @@ returns g c = record {
       let a = c.args in
       let key = tile_at a.table.now a.place in
       let more = spare_freed stands spare in
-      moves_run profile old new _ _ spare (λ db. with_tree db 15 (without (by_tile key) (db 15))) (λ x. get x.kept.tiles key ≡ stands) (without_tile key) more c.run.result c.run.ensures.run
-      (λ count ready h. has_deleted _ _ _ _ _ statement.delete_tile old new ready (Words key.table ∷ Int key.zoom ∷ Int key.column ∷ Int key.row ∷ []) _ (search rules) (Ok count) h)
+      moves_run profile old new _ _ spare (λ db. with_tree db 15 (without (by_tile key) (db 15)))
+      (λ x. get x.kept.tiles key ≡ stands) (without_tile key) more c.run.result c.run.ensures.run
+      (λ count ready h. has_deleted _ _ _ _ _ statement.delete_tile old new ready
+      (Words key.table ∷ Int key.zoom ∷ Int key.column ∷ Int key.row ∷ []) _ (search rules) (Ok count) h)
       (λ ready x h stood.
       let kept = kept_in spare spare profile.version (seen old) x h in
       holds_tiles spare more profile.version (seen old) x h _ _ (remove x.content.tiles key)
-      (keeps_no_tile spare more (seen old) x.kept x.content kept _ key (removes parts.tiles (seen old 15) x.kept.tiles kept.tiles key) (freed_before stands spare)
+      (keeps_no_tile spare more (seen old) x.kept x.content kept _ key
+      (removes parts.tiles (seen old 15) x.kept.tiles kept.tiles key) (freed_before stands spare)
       (λ z named. freed_at stands spare z (sym stood ∙ named.1 ∙ named.2))));
 }

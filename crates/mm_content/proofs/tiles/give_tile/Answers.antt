@@ -8,7 +8,8 @@ returns-in_err-stands g c = gives_unasked c.in_err-stands.ensures c.from_residua
 
 pub returns : goal.returns
 returns g c =
-    gives c.in_ok-stands.ensures _ (λ v says. says.0) (rw (to_z-of_z c.ranges.blob) at c.in_ok-name_tile.ensures) c.release_freed.ensures (λ bytes v. refl)
+    gives c.in_ok-stands.ensures _ (λ v says. says.0) (rw (to_z-of_z c.ranges.blob) at c.in_ok-name_tile.ensures)
+    c.release_freed.ensures (λ bytes v. refl)
 
 pub returns-in_err-name_tile : goal.returns-in_err-name_tile
 returns-in_err-name_tile g c =

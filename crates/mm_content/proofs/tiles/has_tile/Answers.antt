@@ -12,7 +12,8 @@ use Rattle.mm_content.proofs.tiles.has_tile.Goals as goal
 pub returns : goal.returns
 returns g c =
     let key = tile_at c.args.table.now c.args.place in
-    asks_any statement.has_tile c.exists.ensures (Words key.table ∷ Int key.zoom ∷ Int key.column ∷ Int key.row ∷ []) (search rules)
+    asks_any statement.has_tile c.exists.ensures (Words key.table ∷ Int key.zoom ∷ Int key.column ∷ Int key.row ∷ [])
+    (search rules)
     (λ version p db h.
     found parts.tiles (db 15) h.kept.tiles h.keeps.tiles key
     ∙ told_there tile_id tile_with h.kept.shelf h.kept.tiles p.tiles h.keeps.tiles_told key)

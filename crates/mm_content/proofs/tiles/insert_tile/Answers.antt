@@ -31,12 +31,16 @@ returns g c = record {
       let id = a.blob in
       let row = tile_row key id in
       let more = spare_but id spare in
-      moves_run profile old new _ _ spare (λ db. with_tree db 15 (put_row (Int (next_rowid (db 15)) ∷ row) (db 15))) (λ x. (bytes_at x.kept.shelf id ≡ Some bytes) × (get x.kept.tiles key ≡ None)) (with_tile key id bytes) more
-      c.run.result c.run.ensures.run (λ count ready h. has_inserted _ _ _ _ _ _ statement.insert_tile old new ready row _ (Ok count) Null row refl refl refl (search rules) h)
+      moves_run profile old new _ _ spare (λ db. with_tree db 15 (put_row (Int (next_rowid (db 15)) ∷ row) (db 15)))
+      (λ x. (bytes_at x.kept.shelf id ≡ Some bytes) × (get x.kept.tiles key ≡ None)) (with_tile key id bytes) more
+      c.run.result c.run.ensures.run (λ count ready h. has_inserted _ _ _ _ _ _ statement.insert_tile old new ready row
+      _ (Ok count) Null row refl refl refl (search rules) h)
       (λ ready x h when.
       let kept = kept_in spare spare profile.version (seen old) x h in
       holds_tiles spare more profile.version (seen old) x h _ _ (insert x.content.tiles key bytes)
       (keeps_tile spare more (seen old) x.kept x.content kept _ key id bytes
-      (puts parts.tiles (seen old 15) x.kept.tiles kept.tiles key id (Int (next_rowid (seen old 15)) ∷ row) when.1 refl (chosen_is_free (seen old 15) row (ready.rows 15))) when.0
-      (λ z spared other. but_other spare id z (λ e. other (ap Some (sym e))) spared) (λ z named other. absurd (not_none named.1 when.1))));
+      (puts parts.tiles (seen old 15) x.kept.tiles kept.tiles key id (Int (next_rowid (seen old 15)) ∷ row) when.1 refl
+      (chosen_is_free (seen old 15) row (ready.rows 15))) when.0
+      (λ z spared other. but_other spare id z (λ e. other (ap Some (sym e))) spared)
+      (λ z named other. absurd (not_none named.1 when.1))));
 }

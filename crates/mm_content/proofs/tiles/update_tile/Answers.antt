@@ -32,13 +32,19 @@ returns g c = record {
       let id = a.blob in
       let params = tile_row key id in
       let more = spare_too was (spare_but id spare) in
-      moves_run profile old new _ _ spare (λ db. with_tree db 15 (with_changed (by_tile key) (updated mm_tiles tile_sets params) (db 15))) (λ x. (bytes_at x.kept.shelf id ≡ Some bytes) × (get x.kept.tiles key ≡ Some was)) (with_tile key id bytes) more
-      c.run.result c.run.ensures.run (λ count ready h. has_changed _ _ _ _ _ _ statement.update_tile old new ready params _ (Ok count) (search rules) h)
+      moves_run profile old new _ _ spare
+      (λ db. with_tree db 15 (with_changed (by_tile key) (updated mm_tiles tile_sets params) (db 15)))
+      (λ x. (bytes_at x.kept.shelf id ≡ Some bytes) × (get x.kept.tiles key ≡ Some was)) (with_tile key id bytes) more
+      c.run.result c.run.ensures.run (λ count ready h. has_changed _ _ _ _ _ _ statement.update_tile old new ready
+      params _ (Ok count) (search rules) h)
       (λ ready x h when.
       let kept = kept_in spare spare profile.version (seen old) x h in
       holds_tiles spare more profile.version (seen old) x h _ _ (insert x.content.tiles key bytes)
       (keeps_tile spare more (seen old) x.kept x.content kept _ key id bytes
-      (changes parts.tiles (seen old 15) x.kept.tiles kept.tiles key (updated mm_tiles tile_sets params) was id when.1 (tile_changed key was id)) when.0
-      (λ z spared other. too_before (spare_but id spare) was z (but_other spare id z (λ e. other (ap Some (sym e))) spared))
-      (λ z named other. ap more (same_some (sym named.2 ∙ sym named.1 ∙ when.1)) ∙ too_itself (spare_but id spare) was)));
+      (changes parts.tiles (seen old 15) x.kept.tiles kept.tiles key (updated mm_tiles tile_sets params) was id when.1
+      (tile_changed key was id)) when.0
+      (λ z spared other. too_before (spare_but id spare) was z
+      (but_other spare id z (λ e. other (ap Some (sym e))) spared))
+      (λ z named other. ap more (same_some (sym named.2 ∙ sym named.1 ∙ when.1))
+      ∙ too_itself (spare_but id spare) was)));
 }

@@ -19,7 +19,8 @@ returns-in-RowDrop g c =
 pub returns-in-Media : goal.returns-in-Media
 returns-in-Media g c =
     let id_fits : SFits w64 c.get-in-Media.result = search rules in
-    let lent = simp to_z-of_z at (rw (c.as_str-in-Media.ensures.text, c.as_slice.ensures.bytes) at c.put_media.ensures) in
+    let lent = simp to_z-of_z at (rw (c.as_str-in-Media.ensures.text, c.as_slice.ensures.bytes) at
+    c.put_media.ensures) in
     rw c.in-Media.is (rw c.get-in-Media.ensures.number at lent)
 
 pub returns-in-MediaDrop : goal.returns-in-MediaDrop

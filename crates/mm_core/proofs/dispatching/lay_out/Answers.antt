@@ -8,7 +8,12 @@ pub returns-in-Srs : goal.returns-in-Srs
 returns-in-Srs g c =
     let id_fits : SFits w64 c.get.result = search rules in
     let organization_fits : SFits w64 c.get-in-Srs.result = search rules in
-    let lent = simp to_z-of_z at (rw (c.as_str.ensures.text, c.as_str-in-Srs.ensures.text, c.as_str-in-Srs-2.ensures.text, c.as_str-in-Srs-3.ensures.text) at c.add_srs.ensures) in
+    let lent = simp to_z-of_z at (rw (
+      c.as_str.ensures.text,
+      c.as_str-in-Srs.ensures.text,
+      c.as_str-in-Srs-2.ensures.text,
+      c.as_str-in-Srs-3.ensures.text,
+    ) at c.add_srs.ensures) in
     rw c.in-Srs.is (at_any (rw (c.get.ensures.number, c.get-in-Srs.ensures.number) at lent) (λ p. refl))
 
 pub returns-in-Table : goal.returns-in-Table

@@ -11,7 +11,8 @@ returns-then-across c =
     let high : c.distance-2.result ≡ e.max_y -ℤ e.min_y = omega (arith, ints) in
     let broad : c.measure.result ≡ pos (m.mw * m.tw) *ℤ m.px = c.measure.ensures in
     let long : c.measure-2.result ≡ pos (m.mh * m.th) *ℤ m.py = c.measure-2.ensures in
-    let same : c.distance.result ≡ c.measure.result = let h = c.is_same-across.ensures.0 c.if-across.true in omega (arith, ints, h) in
+    let same : c.distance.result ≡ c.measure.result = let h = c.is_same-across.ensures.0 c.if-across.true in omega
+    (arith, ints, h) in
     rw (← c.extent.view_is) (
       λ t. record {
         across = sym wide ∙ same ∙ broad;

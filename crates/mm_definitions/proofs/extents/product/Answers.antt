@@ -23,5 +23,6 @@ returns c =
     let small = below c.args.tiles c.args.pixels tiles pixels in
     let wide : to_z w128 count ≡ pos count = omega (arith, ints, small) in
     let same : to_z w128 (of_z w128 (to_z w64 (of_z w64 c.args.size))) ≡ c.args.size = omega (arith, ints) in
-    let fits : FitsSigned w128 (pos count *ℤ c.args.size) = fits_signed_mul w128 (pos count) c.args.size (2 ^ 64 - 1) (2 ^ 63) (omega (arith, ints, small)) (omega (arith, ints)) (omega arith) in
+    let fits : FitsSigned w128 (pos count *ℤ c.args.size) = fits_signed_mul w128 (pos count) c.args.size (2 ^ 64 - 1)
+    (2 ^ 63) (omega (arith, ints, small)) (omega (arith, ints)) (omega arith) in
     ap (λ z. to_z w128 (of_z w128 z)) (λ i. wide i *ℤ same i) ∙ to_z-of_z w128 (pos count *ℤ c.args.size) fits

@@ -8,8 +8,11 @@ use Rattle.mm_definitions.proofs.hexadecimal.spells.Goals as goal
 
 pub returns : goal.returns
 returns c =
-    let text : string_bytes c.in_ok-spelled.spelled ≡ encode_lower c.args.bytes.now = IfOk-at_ok _ c.in_ok-spelled.was c.encode.ensures in
+    let text : string_bytes c.in_ok-spelled.spelled ≡ encode_lower c.args.bytes.now = IfOk-at_ok _ c.in_ok-spelled.was
+    c.encode.ensures in
     let fits : IsBytes c.args.bytes.now = λ i. let f = c.type_inv.bytes i in omega arith in
-    let back : decode_of c.as_str.result.now ≡ Ok c.args.bytes.now = rw (c.as_str.ensures.value, text) (decode_of-encode_lower c.args.bytes.now fits) in
+    let back : decode_of c.as_str.result.now ≡ Ok c.args.bytes.now = rw (c.as_str.ensures.value, text)
+    (decode_of-encode_lower c.args.bytes.now fits) in
     let decides = bytes_eq-Decides c.as_str.result.now c.args.text.now in
-    λ yes. (let same : c.as_str.result.now ≡ c.args.text.now = decides.0 (sym c.eq.ensures ∙ yes) in sym (ap decode_of same) ∙ back)
+    λ yes. (let same : c.as_str.result.now ≡ c.args.text.now = decides.0 (sym c.eq.ensures ∙ yes) in sym
+    (ap decode_of same) ∙ back)

@@ -10,7 +10,8 @@ pub unwrap-text-requires : goal.unwrap-text-requires
 unwrap-text-requires c =
     let date = c.date_of-date.result in
     utf8_ok c.from_utf8.result _ _ _ c.from_utf8.ensures.cases
-    (subst IsUtf8 (sym c.bytes_on-bytes.ensures) (stamp_utf8 (unsigned_abs date.year) date.month date.day (c.moment.inside.milliseconds % 86400000)))
+    (subst IsUtf8 (sym c.bytes_on-bytes.ensures)
+    (stamp_utf8 (unsigned_abs date.year) date.month date.day (c.moment.inside.milliseconds % 86400000)))
 
 pub returns : goal.returns
 returns c =
@@ -19,5 +20,6 @@ returns c =
     IfOk-weaker c.from_str.result _ _ (λ text e. record {
       date = date;
       day = subst (λ m. epoch_day date ≡ pos (m / 86400000)) c.moment.view_is c.date_of-date.ensures;
-      spelled = e ∙ cases.0 ∙ c.bytes_on-bytes.ensures ∙ ap (λ m. stamp_text (unsigned_abs date.year) date.month date.day (m % 86400000)) c.moment.view_is;
+      spelled = e ∙ cases.0 ∙ c.bytes_on-bytes.ensures
+          ∙ ap (λ m. stamp_text (unsigned_abs date.year) date.month date.day (m % 86400000)) c.moment.view_is;
     }) c.from_str.ensures.ok

@@ -18,7 +18,8 @@ returns-clause-ran g c =
       record {
         clean = it.clean;
         seen = subst
-            (λ told. KeepsRun c.args.at (A.is_clean new) (A.seen old) told (A.has_failed old) (λ p. shown_since A old p new) between after c.run_list.result)
+            (λ told. KeepsRun c.args.at (A.is_clean new) (A.seen old) told (A.has_failed old)
+            (λ p. shown_since A old p new) between after c.run_list.result)
             (ap (λ r. Some r.now) c.new-records.ensures.inside) it.seen;
         told = it.told;
         session = it.session;

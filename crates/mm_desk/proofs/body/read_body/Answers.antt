@@ -12,8 +12,12 @@ returns-in_err-extend_from_slice-in-Ok-clause-frugal g c =
     let fits = c.in-Ok.ensures.bound.0 in
     let more = take n c.read.new.buf in
     let sizes : length c.pieces.body.items ≡ length here + length read = ap length is ∙ length-append here read in
-    let size : length c.read.new.buf ≡ c.min-most.result = search rules in
-    (read ++ more, Consumes-trans _ _ _ _ _ all c.in-Ok.ensures.bytes.0, omega (arith, sizes, fits, size, c.min-most.ensures, length-append read more, length-take n c.read.new.buf))
+    let size : length c.read.new.buf ≡ c.min-most.result = search rules in (
+      read ++ more,
+      Consumes-trans _ _ _ _ _ all c.in-Ok.ensures.bytes.0,
+      omega
+          (arith, sizes, fits, size, c.min-most.ensures, length-append read more, length-take n c.read.new.buf),
+    )
 
 pub returns-in-Err-clause-frugal : goal.returns-in-Err-clause-frugal
 returns-in-Err-clause-frugal g c =

@@ -6,7 +6,8 @@ use Rattle.mm_desk.proofs.body.read_body.Given as goal
 
 abbrev pub invariant-pieces : goal.invariant-pieces
 invariant-pieces g l =
-    (length l.body.items ≤ l.length) × (has_failed l.reader ≡ has_failed l.fn.reader) × (read : List ℕ) × Consumes (g.R.Read.remaining (inside l.fn.reader)) (g.R.Read.remaining (inside l.reader)) read
+    (length l.body.items ≤ l.length) × (has_failed l.reader ≡ has_failed l.fn.reader) × (read : List ℕ)
+    × Consumes (g.R.Read.remaining (inside l.fn.reader)) (g.R.Read.remaining (inside l.reader)) read
     × (l.body.items ≡ take l.length l.here ++ read)
 
 abbrev pub decreases-pieces : goal.decreases-pieces

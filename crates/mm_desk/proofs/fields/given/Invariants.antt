@@ -5,4 +5,5 @@ use Rattle.mm_desk.specs.Fields.{IsFieldValue}
 use Rattle.mm_desk.proofs.fields.given.Given as goal
 
 abbrev pub invariant-loop-header : goal.invariant-loop-header
-invariant-loop-header l = IsFieldValue (values_named l.name (map (header_bytes l.head) (take l.header-index l.headers))) l.found
+invariant-loop-header l = IsFieldValue (values_named l.name (map (header_bytes l.head) (take l.header-index l.headers)))
+    l.found

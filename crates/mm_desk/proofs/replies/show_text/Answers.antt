@@ -10,7 +10,8 @@ returns-in-Some g c =
     let fits : SFits w64 c.in-Some.first = search rules in
     let shown = rw (to_z-of_z w64 c.in-Some.first fits) at c.rows_reply.ensures in
     replied g.D.Viewer (option_map (λ name. name.now) c.args.page) c.args.path.now _ _ c.rows_reply.result _ shown
-    (λ p bytes e. inl (c.in-Some.table, c.in-Some.first, c.in-Some.ensures, e)) (inl (c.in-Some.table, c.in-Some.first, c.in-Some.ensures))
+    (λ p bytes e. inl (c.in-Some.table, c.in-Some.first, c.in-Some.ensures, e))
+    (inl (c.in-Some.table, c.in-Some.first, c.in-Some.ensures))
 
 pub returns-in-Ok-None : goal.returns-in-Ok-None
 returns-in-Ok-None g c =
@@ -19,4 +20,5 @@ returns-in-Ok-None g c =
       | inl (table, first, rows) ↦ c.in_default.ensures table first rows
       | inr (w, routed) ↦ nothing w routed
     ]) in
-    asks_nothing g.D.Viewer (option_map (λ name. name.now) c.args.page) c.args.path.now c.args.desk.now c.nothing_found.result none c.nothing_found.ensures.bytes c.nothing_found.ensures.memory
+    asks_nothing g.D.Viewer (option_map (λ name. name.now) c.args.page) c.args.path.now c.args.desk.now
+    c.nothing_found.result none c.nothing_found.ensures.bytes c.nothing_found.ensures.memory

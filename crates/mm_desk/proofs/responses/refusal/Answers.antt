@@ -36,4 +36,11 @@ returns-in_default c =
     let e : c.args.status ≢ 405 = search rules in
     let f : c.args.status ≢ 411 = search rules in
     let h : c.args.status ≢ 413 = search rules in
-    rw (ne_eqb c.args.status 400 a, ne_eqb c.args.status 403 b, ne_eqb c.args.status 404 d, ne_eqb c.args.status 405 e, ne_eqb c.args.status 411 f, ne_eqb c.args.status 413 h) refl
+    rw (
+      ne_eqb c.args.status 400 a,
+      ne_eqb c.args.status 403 b,
+      ne_eqb c.args.status 404 d,
+      ne_eqb c.args.status 405 e,
+      ne_eqb c.args.status 411 f,
+      ne_eqb c.args.status 413 h,
+    ) refl

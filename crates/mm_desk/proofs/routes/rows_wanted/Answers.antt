@@ -1,4 +1,5 @@
-use Rattle.std.proofs.Common.{◌≡◌, ◌∙◌, ◌<ℤ◌, ◌++◌, ◌∷◌, pos, false, true, inl, inr, codes, drop, sym, ap, subst, arith, rules, w64}
+use Rattle.std.proofs.Common.{◌≡◌, ◌∙◌, ◌<ℤ◌, ◌++◌, ◌∷◌, pos, false, true, inl, inr, codes, drop, sym, ap, subst, arith}
+use Rattle.std.proofs.Common.{rules, w64}
 use Rattle.std.proofs.lemmas.Int.{ints, to_z-of_z}
 use mir.Val.{SFits}
 use Rattle.mm_definitions.specs.Bounds.{IsName}
@@ -21,7 +22,8 @@ pub returns-in_default-read : goal.returns-in_default-read
 returns-in_default-read c = λ table first a.
     let w = word_is c.args.path.now c.in-Some.parts.now c.in-Some-at_slash.word.now c.in-Some-at_slash.rest.now
     c.in-Some.ensures c.in-Some-at_slash.ensures.0 c.in-Some-at_slash.ensures.1 table first a in
-    let e = ends_are c.in-Some-at_slash.rest.now c.in-Some-at_slash-2.front.now c.in-Some-at_slash-2.back.now c.in-Some-at_slash-2.ensures.0 c.in-Some-at_slash-2.ensures.1 table a.0 w.1 a.2 in
+    let e = ends_are c.in-Some-at_slash.rest.now c.in-Some-at_slash-2.front.now c.in-Some-at_slash-2.back.now
+    c.in-Some-at_slash-2.ensures.0 c.in-Some-at_slash-2.ensures.1 table a.0 w.1 a.2 in
     let named : IsName c.in-Some-at_slash-2.front.now = subst IsName (sym e.0) a.2 in
     let e : false ≡ true = c.in_default-read.ensures.named.1 named in cc
 
@@ -30,15 +32,19 @@ returns-in-Ok c =
     let same = is_word c.in-Some-at_slash.word.now (codes "rows") c.ne.result c.ne.ensures c.if-ne.false in
     let fits : SFits w64 c.in-Ok.first = search rules in
     let path : c.args.path.now ≡ 47 ∷ (codes "rows" ++ 47 ∷ (c.in-Some-at_slash-2.front.now ++ 47 ∷ c.in-Some-at_slash-2.back.now)) =
-    c.in-Some.ensures ∙ ap (λ (x : Text). 47 ∷ x) (c.in-Some-at_slash.ensures.0 ∙ (λ i. same i ++ 47 ∷ c.in-Some-at_slash-2.ensures.0 i)) in
-    rw (to_z-of_z w64 c.in-Ok.first fits, c.in-Some-read.ensures.value) (c.in-Some-at_slash-2.back.now, path, c.in-Some-read.ensures.named.0 (search rules), c.in-Ok.ensures.ok)
+    c.in-Some.ensures ∙ ap (λ (x : Text). 47 ∷ x)
+    (c.in-Some-at_slash.ensures.0 ∙ (λ i. same i ++ 47 ∷ c.in-Some-at_slash-2.ensures.0 i)) in
+    rw (to_z-of_z w64 c.in-Ok.first fits, c.in-Some-read.ensures.value)
+    (c.in-Some-at_slash-2.back.now, path, c.in-Some-read.ensures.named.0 (search rules), c.in-Ok.ensures.ok)
 
 pub returns-in-Err : goal.returns-in-Err
 returns-in-Err c = λ table first a.
     let w = word_is c.args.path.now c.in-Some.parts.now c.in-Some-at_slash.word.now c.in-Some-at_slash.rest.now
     c.in-Some.ensures c.in-Some-at_slash.ensures.0 c.in-Some-at_slash.ensures.1 table first a in
-    let e = ends_are c.in-Some-at_slash.rest.now c.in-Some-at_slash-2.front.now c.in-Some-at_slash-2.back.now c.in-Some-at_slash-2.ensures.0 c.in-Some-at_slash-2.ensures.1 table a.0 w.1 a.2 in
-    let spelled : SpellsNumber c.in-Some-at_slash-2.back.now first = subst (λ t. SpellsNumber t first) (sym e.1) a.3.0 in
+    let e = ends_are c.in-Some-at_slash.rest.now c.in-Some-at_slash-2.front.now c.in-Some-at_slash-2.back.now
+    c.in-Some-at_slash-2.ensures.0 c.in-Some-at_slash-2.ensures.1 table a.0 w.1 a.2 in
+    let spelled : SpellsNumber c.in-Some-at_slash-2.back.now first = subst (λ t. SpellsNumber t first) (sym e.1)
+    a.3.0 in
     elim c.in-Err.ensures.err [
       | inl (why, none) ↦ none first spelled
       | inr (why, x, sx, out) ↦

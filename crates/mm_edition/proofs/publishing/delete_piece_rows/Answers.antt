@@ -22,10 +22,19 @@ returns g c = record {
       let old = state g.S.Store c.args.tx.now.conn.now in
       let new = state g.S.Store c.run.new.tx.conn.now in
       let edition = c.args.edition.now in
-      moves_less (λ base x _ y. (y.content ≡ record (x.content) { pieces = retain_keys x.content.pieces (λ k. is_other edition k.edition) }) × IsSeen more profile new base y) old new c.run.result
-      (moves_run profile old new _ _ no_spare (λ db. with_tree db 25 (without (by_text edition) (db 25))) (λ x. (z : ℤ) → FreedByEdition edition x.kept z → more z ≡ true)
-      (λ x. record { content = record (x.content) { pieces = retain_keys x.content.pieces (λ k. is_other edition k.edition) }; kept = kept_without_edition edition x.kept }) more c.run.result c.run.ensures.run
-      (λ count ready h. has_deleted _ _ _ _ _ statement.delete_pieces old new ready (Words edition ∷ []) _ (search rules) (Ok count) h)
+      moves_less (λ base x _ y. (y.content ≡ record (x.content)
+      { pieces = retain_keys x.content.pieces (λ k. is_other edition k.edition) }) × IsSeen more profile new base y) old
+      new c.run.result
+      (moves_run profile old new _ _ no_spare (λ db. with_tree db 25 (without (by_text edition) (db 25)))
+      (λ x. (z : ℤ) → FreedByEdition edition x.kept z → more z ≡ true)
+      (λ x. record {
+        content = record (x.content)
+            { pieces = retain_keys x.content.pieces (λ k. is_other edition k.edition) };
+        kept = kept_without_edition edition
+            x.kept;
+      }) more c.run.result c.run.ensures.run
+      (λ count ready h. has_deleted _ _ _ _ _ statement.delete_pieces old new ready (Words edition ∷ []) _
+      (search rules) (Ok count) h)
       (λ ready x h freed. holds_without_pieces edition more profile.version (seen old) x h freed))
       (λ base x it. it) (λ base x y t it last. (ap (λ (v : View). v.content) last.0, last.1));
 }

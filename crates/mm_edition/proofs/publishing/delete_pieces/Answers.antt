@@ -12,12 +12,14 @@ returns g c =
     let blobs = c.in_ok-blobs.blobs.items in
     cleared
     (releases no_spare
-    (frees c.in_ok-blobs.ensures c.in_ok-delete_piece_rows.ensures (spare_each blobs no_spare) (λ v says. listed_too c.args.edition.now v.kept blobs says))
+    (frees c.in_ok-blobs.ensures c.in_ok-delete_piece_rows.ensures (spare_each blobs no_spare)
+    (λ v says. listed_too c.args.edition.now v.kept blobs says))
     c.as_slice.ensures.value c.release_each.ensures)
 
 pub returns-in_err-delete_piece_rows : goal.returns-in_err-delete_piece_rows
 returns-in_err-delete_piece_rows g c =
     let blobs = c.in_ok-blobs.blobs.items in
     clears_failed
-    (frees c.in_ok-blobs.ensures c.in_err-delete_piece_rows.ensures (spare_each blobs no_spare) (λ v says. listed_too c.args.edition.now v.kept blobs says))
+    (frees c.in_ok-blobs.ensures c.in_err-delete_piece_rows.ensures (spare_each blobs no_spare)
+    (λ v says. listed_too c.args.edition.now v.kept blobs says))
     c.from_residual-in_err-delete_piece_rows.ensures.1

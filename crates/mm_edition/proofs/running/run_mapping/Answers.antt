@@ -15,5 +15,6 @@ pub returns-in-MapDrop : goal.returns-in-MapDrop
 returns-in-MapDrop g c bytes =
     let base_fits : SFits w64 c.get-in-MapDrop.result = search rules in
     let related_fits : SFits w64 c.get-in-MapDrop-2.result = search rules in
-    let lent = rw (c.get-in-MapDrop.ensures.number, c.get-in-MapDrop-2.ensures.number) at (simp to_z-of_z at c.drop_map.ensures) in
+    let lent = rw (c.get-in-MapDrop.ensures.number, c.get-in-MapDrop-2.ensures.number) at
+    (simp to_z-of_z at c.drop_map.ensures) in
     rw c.in-MapDrop.is (unstamped lent (λ text p. refl))

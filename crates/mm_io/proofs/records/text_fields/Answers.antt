@@ -16,7 +16,13 @@ pub fields-preserved : goal.fields-preserved
 fields-preserved c =
     let all = fields_of c.args.row.now in
     let lt : c.fields.i < length all = omega (arith, c.len-i-end.ensures) in
-    let here : get_or all c.fields.i [] ≡ c.in-Some.field.now = field-get all c.fields.i _ (sym (rw c.in-Some.is at c.get.ensures.value)) in
+    let here : get_or all c.fields.i [] ≡ c.in-Some.field.now = field-get all c.fields.i _
+    (sym (rw c.in-Some.is at c.get.ensures.value)) in
     let good : is_ok c.push.result ≡ true = search rules in
     let items = rw good at c.push.ensures.items in
-    rw (items, map-append (λ f. f.now) c.fields.fields.items (c.in-Some.field ∷ []), take_more all c.fields.i [] lt, here) (ap (λ l. l ++ (c.in-Some.field.now ∷ [])) c.fields.invariant)
+    rw (
+      items,
+      map-append (λ f. f.now) c.fields.fields.items (c.in-Some.field ∷ []),
+      take_more all c.fields.i [] lt,
+      here,
+    ) (ap (λ l. l ++ (c.in-Some.field.now ∷ [])) c.fields.invariant)

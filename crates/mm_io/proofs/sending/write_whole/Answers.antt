@@ -8,9 +8,11 @@ pub loop-at-preserved : goal.loop-at-preserved
 loop-at-preserved g c =
     let at = c.loop-at.at in
     let line = c.args.bytes.now in
-    let whole : take (length line - at) (drop at line) ≡ drop at line = take_all (length line - at) (drop at line) (omega (arith, length-drop at line)) in
+    let whole : take (length line - at) (drop at line) ≡ drop at line = take_all (length line - at) (drop at line)
+    (omega (arith, length-drop at line)) in
     record {
       in_range = search rules;
-      written = rw (take-add at c.in-Ok.taken line) (Appends-trans _ _ _ _ _ c.loop-at.invariant.written (rw whole at c.in-Ok.ensures.bytes));
+      written = rw (take-add at c.in-Ok.taken line)
+          (Appends-trans _ _ _ _ _ c.loop-at.invariant.written (rw whole at c.in-Ok.ensures.bytes));
       working = search rules;
     }

@@ -20,18 +20,22 @@ returns-in-Entries g c =
       seen = record {
         answered =
             IfOk-weaker r _ _ (λ answer made clean p sound these tells.
-            let is : IsKitList these (Ok c.in-Entries.entries.items) = rw c.in-Entries.is at (found.lists these tells) in
+            let is : IsKitList these (Ok c.in-Entries.entries.items) =
+            rw c.in-Entries.is at (found.lists these tells) in
             imported these c.args.name.now p _ answer _ is (made clean p sound these (found.stays ∙ tells)))
             c.import_entries.ensures.answered;
         stopped =
             IfErr-weaker r _ _ (λ e made clean p sound these tells.
-            let is : IsKitList these (Ok c.in-Entries.entries.items) = rw c.in-Entries.is at (found.lists these tells) in
-            stopped_some these c.args.name.now p _ _ (shown_since g.A.Apply c.args.editor.now p new).stands_for e.staged is
+            let is : IsKitList these (Ok c.in-Entries.entries.items) =
+            rw c.in-Entries.is at (found.lists these tells) in
+            stopped_some these c.args.name.now p _ _ (shown_since g.A.Apply c.args.editor.now p new).stands_for e.staged
+            is
             (made clean p sound these (found.stays ∙ tells)))
             c.import_entries.ensures.stopped;
         works =
             IfErr-weaker r _ _ (λ e made clean p sound these tells same.
-            let is : IsKitList these (Ok c.in-Entries.entries.items) = rw c.in-Entries.is at (found.lists these tells) in
+            let is : IsKitList these (Ok c.in-Entries.entries.items) =
+            rw c.in-Entries.is at (found.lists these tells) in
             works_some these c.args.name.now p _ _ e.staged is (made clean p sound these (found.stays ∙ tells) same))
             c.import_entries.ensures.works;
         kept = c.import_entries.ensures.kept;
@@ -39,9 +43,16 @@ returns-in-Entries g c =
       };
       session = c.import_entries.ensures.session;
       ended = λ was.
-          subst (ImportEnded (g.F.Folder.files c.args.folder.now)) (sym (c.import_entries.ensures.ended was))
-          (refl, inr (inr (refl, λ these tells. (c.in-Entries.entries.items, rw c.in-Entries.is at (found.lists these tells)))));
-      needed = IfErr-weaker r _ _ (λ e _ is these tells. (c.in-Entries.entries.items, rw c.in-Entries.is at (found.lists these tells))) c.import_entries.ensures.why;
+          subst (ImportEnded (g.F.Folder.files c.args.folder.now)) (sym (c.import_entries.ensures.ended was)) (
+            refl,
+            inr (inr (
+              refl,
+              λ these tells.
+                  (c.in-Entries.entries.items, rw c.in-Entries.is at (found.lists these tells)),
+            )),
+          );
+      needed = IfErr-weaker r _ _ (λ e _ is these tells.
+          (c.in-Entries.entries.items, rw c.in-Entries.is at (found.lists these tells))) c.import_entries.ensures.why;
       folder = c.import_entries.ensures.folder ∙ ap (λ b. b || is_folders r) (found.fails ∙ as_before _);
       why = c.import_entries.ensures.why;
     }
@@ -53,7 +64,8 @@ returns-in-Refused g c =
       clean = λ clean. clean;
       seen = record {
         answered = λ clean p sound these tells.
-            let is : IsKitList these (Err (c.in-Refused.piece, c.in-Refused.number)) = rw c.in-Refused.is at (c.in-Ok.ensures.lists these tells) in
+            let is : IsKitList these (Err (c.in-Refused.piece, c.in-Refused.number)) =
+            rw c.in-Refused.is at (c.in-Ok.ensures.lists these tells) in
             no_kit these c.args.name.now p c.in-Refused.piece c.in-Refused.number _ is (begins g.A.Apply here p sound);
         stopped = tt;
         works = tt;
@@ -76,10 +88,18 @@ returns-in-Err g c =
       seen = record {
         answered = tt;
         stopped = λ clean p sound these tells.
-            stopped_at_once these c.args.name.now p (g.A.Apply.may_leave here) (shown_since g.A.Apply here p here).stands_for sound.1
+            stopped_at_once these c.args.name.now p (g.A.Apply.may_leave here)
+            (shown_since g.A.Apply here p here).stands_for sound.1
             (begins g.A.Apply here p sound).0.1;
-        works = λ clean p sound these tells same. (p, begins g.A.Apply here p sound, inl refl, counted_as_it_was c.args.name.now p);
-        kept = λ clean p sound db may. (p, (begins g.A.Apply here p sound).0.1 db may, sound.1, keeps_itself c.args.name.now p);
+        works = λ clean p sound these tells same.
+            (p, begins g.A.Apply here p sound, inl refl, counted_as_it_was c.args.name.now p);
+        kept = λ clean p sound db may. (
+          p,
+          (begins g.A.Apply here p sound).0.1 db may,
+          sound.1,
+          keeps_itself
+              c.args.name.now p,
+        );
         still_kept = λ clean p sound same. (p, begins g.A.Apply here p sound, keeps_itself c.args.name.now p);
       };
       session = folder-tells c.in-Err.fault c.folder_fault.result c.folder_fault.ensures _ _ refl;

@@ -23,13 +23,16 @@ returns-in-Refused-clause-lists g c bytes tells starts =
     let told = rw c.in-Refused.is at c.in-Err.ensures in
     let bad : IsEntryReadAs at.place (fields_of c.in-Some.row) (Err c.in-Refused.why.number) = told.1 in
     let read = rw c.in-Some.is at c.in_ok-row.ensures.reads in
-    rw (c.reason.ensures ∙ ap (own_number c.in-Refused.why.number) told.0) (one-refused g.T.Read.remaining at.rows c.next_record.new.rows bytes _ _ at.entries.items at.place at.invariant.set_up.config (at.invariant.so_far bytes tells starts) read bad)
+    rw (c.reason.ensures ∙ ap (own_number c.in-Refused.why.number) told.0)
+    (one-refused g.T.Read.remaining at.rows c.next_record.new.rows bytes _ _ at.entries.items at.place
+    at.invariant.set_up.config (at.invariant.so_far bytes tells starts) read bad)
 
 pub returns-in-None-clause-lists : goal.returns-in-None-clause-lists
 returns-in-None-clause-lists g c bytes tells starts =
     let at = c.loop-place in
     let (fields, read) = rw c.in-None.is at c.in_ok-row.ensures.reads in
-    all-read g.T.Read.remaining at.rows c.next_record.new.rows bytes fields at.entries.items at.place at.invariant.set_up.config (at.invariant.so_far bytes tells starts) read
+    all-read g.T.Read.remaining at.rows c.next_record.new.rows bytes fields at.entries.items at.place
+    at.invariant.set_up.config (at.invariant.so_far bytes tells starts) read
 
 pub loop-place-preserved : goal.loop-place-preserved
 loop-place-preserved g c =
@@ -43,5 +46,7 @@ loop-place-preserved g c =
       set_up = rw c.in-Some.is at c.in_ok-row.ensures.stays;
       few = omega (arith, few);
       count = omega (arith, ap length items, length-append at.entries.items (c.in-Ok.entry ∷ []), at.invariant.count);
-      so_far = λ bytes tells starts. rw items (so_far-more g.T.Read.remaining at.rows c.next_record.new.rows bytes _ c.in-Ok.entry at.entries.items at.place at.invariant.set_up.config (at.invariant.so_far bytes tells starts) read good);
+      so_far = λ bytes tells starts. rw items
+          (so_far-more g.T.Read.remaining at.rows c.next_record.new.rows bytes _ c.in-Ok.entry at.entries.items at.place
+          at.invariant.set_up.config (at.invariant.so_far bytes tells starts) read good);
     }

@@ -13,7 +13,8 @@ pub files-preserved : goal.files-preserved
 files-preserved c =
     let lt : c.files.i < length c.args.files.now = search rules in
     let eq : bytes_eq (string_bytes c.index-files-i.result.name) c.args.name.now ≡ false = search rules in
-    c.files.invariant ∙ passed c.args.files.now c.args.name.now c.files.i _ c.index-files-i.result lt c.index-files-i.is eq
+    c.files.invariant ∙ passed c.args.files.now c.args.name.now c.files.i _ c.index-files-i.result lt c.index-files-i.is
+    eq
 
 pub returns : goal.returns
 returns c = c.files.invariant ∙ end c.args.files.now c.args.name.now c.files.i (search rules)

@@ -1,4 +1,5 @@
-use Rattle.std.proofs.Common.{◌≡◌, ◌≤◌, ◌<◌, ◌+◌, ◌∙◌, inl, inr, length, List, [], ◌∷◌, ◌++◌, Ok, ℕ, sym, ap, subst, refl, arith, rules, append_assoc, append-nil, length-append}
+use Rattle.std.proofs.Common.{◌≡◌, ◌≤◌, ◌<◌, ◌+◌, ◌∙◌, inl, inr, length, List, [], ◌∷◌, ◌++◌, Ok, ℕ, sym, ap, subst}
+use Rattle.std.proofs.Common.{refl, arith, rules, append_assoc, append-nil, length-append}
 use Rattle.std.specs.Prelude.{◌||◌, ◌==◌, false, None, Some, Err}
 use Rattle.std.specs.Vec.Iter.{into_iter_items}
 use Rattle.mm_run.specs.Applied.{IsSound}
@@ -6,7 +7,8 @@ use Rattle.mm_run.specs.Sessions.{shown_since}
 use Rattle.mm_run.proofs.Since.{begins}
 use Rattle.mm_definitions.specs.Package.{Package}
 use Rattle.mm_kit.specs.Imports.{IsImportedSoFar, IsPassedBy}
-use Rattle.mm_kit.proofs.StageFacts.{counted, counted_all, fills, grows, left_in_doubt, has_whole, refused_at, so_far-none, staged-more}
+use Rattle.mm_kit.proofs.StageFacts.{counted, counted_all, fills, grows, left_in_doubt, has_whole, refused_at}
+use Rattle.mm_kit.proofs.StageFacts.{so_far-none, staged-more}
 use Rattle.mm_kit.proofs.FolderFacts.{as_before, never_so}
 use Rattle.mm_kit.proofs.Since.{entry_since}
 use Rattle.mm_kit.proofs.KeptFacts.{kept, kept_in_doubt, passed-staged, passed_by-none}
@@ -16,7 +18,8 @@ nothing_left : {X : Type 0} (l : List X) → length l ≡ 0 → l ≡ []
 nothing_left [] h = refl
 nothing_left (x ∷ xs) h = absurd (omega (arith, h))
 
-inside : {X : Type 0} (front : List X) (e : X) (back all : List X) → front ++ e ∷ back ≡ all → length all ≤ 4096 → length front < 4096
+inside : {X : Type 0} (front : List X) (e : X) (back all : List X) → front ++ e ∷ back ≡ all → length all ≤ 4096
+    → length front < 4096
 inside front e back all same most = omega (arith, most, ap length same, length-append front (e ∷ back))
 
 one_more : {X : Type 0} (l : List X) (e : X) (P : ℕ → Type 0) → P (length l + 1) → P (length (l ++ e ∷ []))
@@ -48,11 +51,14 @@ loop-entry-preserved g c =
     let A = g.A.Apply in
     let first = c.args.editor.now in
     let new = c.stage_entry.new.editor in
-    let steps : into_iter_items at.entry-iterator ≡ c.in-Some.entry ∷ into_iter_items c.next.new.self = c.in-Some.ensures.steps.0 in
+    let steps : into_iter_items at.entry-iterator ≡ c.in-Some.entry
+    ∷ into_iter_items c.next.new.self = c.in-Some.ensures.steps.0 in
     let gone = c.in-Some.ensures.steps.1 in
     let less : length at.yielded < 4096 = inside _ _ _ _ (rw steps at at.invariant.items) c.requires.few in
-    let staged = entry_since A first at.editor new (g.F.Folder.files at.folder) c.in-Some.entry c.args.edition.now (length at.yielded + 1)
-    c.args.at (Ok None) (A.is_clean new) (rw (c.in-Ok-None.field-0-is, at.invariant.count) at c.in-Ok-None.ensures.staged) in
+    let staged = entry_since A first at.editor new (g.F.Folder.files at.folder) c.in-Some.entry c.args.edition.now
+    (length at.yielded + 1)
+    c.args.at (Ok None) (A.is_clean new)
+    (rw (c.in-Ok-None.field-0-is, at.invariant.count) at c.in-Ok-None.ensures.staged) in
     record {
       can_next = tt;
       finite = tt;
@@ -65,11 +71,13 @@ loop-entry-preserved g c =
       files = c.stage_entry.ensures.stays ∙ at.invariant.files;
       kept = λ clean p sound old before.
           let (q, stands, here) = at.invariant.kept (c.stage_entry.ensures.clean clean) p sound old before in
-          one_more at.yielded c.in-Some.entry (λ k. (r : Package) × IsSound (shown_since A first p new).settled r × IsPassedBy k c.args.edition.now p old r)
+          one_more at.yielded c.in-Some.entry (λ k. (r : Package) × IsSound (shown_since A first p new).settled r
+          × IsPassedBy k c.args.edition.now p old r)
           (passed-staged (shown_since A first p new) _ c.in-Some.entry c.args.edition.now p q old (length at.yielded)
           stands.1 less here c.args.at (staged p clean q stands));
       so_far = λ clean p sound these tells old before.
-          let (q, stands, here) = at.invariant.so_far (c.stage_entry.ensures.clean clean) p sound these tells old before in
+          let (q, stands, here) = at.invariant.so_far (c.stage_entry.ensures.clean clean) p sound these tells old
+          before in
           one_more at.yielded c.in-Some.entry
           (λ k. (r : Package) × IsSound (shown_since A first p new).settled r
           × IsImportedSoFar these c.args.edition.now c.args.entries.items (into_iter_items c.next.new.self) p old k r)
@@ -84,17 +92,22 @@ returns-in-Ok-Some g c =
     let A = g.A.Apply in
     let first = c.args.editor.now in
     let new = c.stage_entry.new.editor in
-    let steps : into_iter_items at.entry-iterator ≡ c.in-Some.entry ∷ into_iter_items c.next.new.self = c.in-Some.ensures.steps.0 in
+    let steps : into_iter_items at.entry-iterator ≡ c.in-Some.entry
+    ∷ into_iter_items c.next.new.self = c.in-Some.ensures.steps.0 in
     let less : length at.yielded < 4096 = inside _ _ _ _ (rw steps at at.invariant.items) c.requires.few in
-    let refused = entry_since A first at.editor new (g.F.Folder.files at.folder) c.in-Some.entry c.args.edition.now (length at.yielded + 1)
-    c.args.at (Ok (Some c.in-Ok-Some.number)) (A.is_clean new) (rw (c.in-Ok-Some.field-0-is, at.invariant.count) at c.in-Ok-Some.ensures.staged) in
+    let refused = entry_since A first at.editor new (g.F.Folder.files at.folder) c.in-Some.entry c.args.edition.now
+    (length at.yielded + 1)
+    c.args.at (Ok (Some c.in-Ok-Some.number)) (A.is_clean new)
+    (rw (c.in-Ok-Some.field-0-is, at.invariant.count) at c.in-Ok-Some.ensures.staged) in
     record {
       clean = λ h. at.invariant.clean (c.stage_entry.ensures.clean h);
       answered = λ clean p sound these tells old before most.
-          let (q, stands, here) = at.invariant.so_far (c.stage_entry.ensures.clean clean) p sound these tells old before in
+          let (q, stands, here) = at.invariant.so_far (c.stage_entry.ensures.clean clean) p sound these tells old
+          before in
           let so = rw steps at here in
           let (next, why) = refused p clean q stands in
-          let (answer, has) = refused_at these c.args.edition.now c.args.entries.items p old before _ c.in-Some.entry (length at.yielded) c.in-Ok-Some.number q so less stands.1 _ (at.invariant.files ∙ tells) why in
+          let (answer, has) = refused_at these c.args.edition.now c.args.entries.items p old before _ c.in-Some.entry
+          (length at.yielded) c.in-Ok-Some.number q so less stands.1 _ (at.invariant.files ∙ tells) why in
           record {
             answer_is = rw (answer, at.invariant.count) refl;
             next = q;
@@ -121,15 +134,18 @@ returns-in-Err g c =
     let A = g.A.Apply in
     let first = c.args.editor.now in
     let new = c.stage_entry.new.editor in
-    let steps : into_iter_items at.entry-iterator ≡ c.in-Some.entry ∷ into_iter_items c.next.new.self = c.in-Some.ensures.steps.0 in
+    let steps : into_iter_items at.entry-iterator ≡ c.in-Some.entry
+    ∷ into_iter_items c.next.new.self = c.in-Some.ensures.steps.0 in
     let less : length at.yielded < 4096 = inside _ _ _ _ (rw steps at at.invariant.items) c.requires.few in
-    let stopped = entry_since A first at.editor new (g.F.Folder.files at.folder) c.in-Some.entry c.args.edition.now (length at.yielded + 1)
+    let stopped = entry_since A first at.editor new (g.F.Folder.files at.folder) c.in-Some.entry c.args.edition.now
+    (length at.yielded + 1)
     c.args.at (Err c.in-Err.fault) (A.is_clean new) (rw at.invariant.count at c.in-Err.ensures.staged) in
     record {
       clean = λ h. at.invariant.clean (c.stage_entry.ensures.clean h);
       answered = tt;
       stopped = λ clean p sound these tells old before db may.
-          let (q, stands, here) = at.invariant.so_far (c.stage_entry.ensures.clean clean) p sound these tells old before in
+          let (q, stands, here) = at.invariant.so_far (c.stage_entry.ensures.clean clean) p sound these tells old
+          before in
           let so = rw steps at here in
           rw at.invariant.count (elim (stopped p clean q stands) [
             | inl works ↦ (
@@ -141,13 +157,21 @@ returns-in-Err g c =
             )
             | inr doubt ↦
                 left_in_doubt these _ _ p old before (shown_since A first p new).stands_for db _ _ doubt.1 _ q so
-                (fills these _ c.in-Some.entry (Ok doubt.1) (at.invariant.files ∙ tells) doubt.2) less stands.1 c.args.at doubt.3 (doubt.4 db may)
+                (fills these _ c.in-Some.entry (Ok doubt.1) (at.invariant.files ∙ tells) doubt.2) less stands.1
+                c.args.at doubt.3 (doubt.4 db may)
           ]);
       works = λ clean p sound these tells old before same.
-          let (q, stands, here) = at.invariant.so_far (c.stage_entry.ensures.clean clean) p sound these tells old before in
+          let (q, stands, here) = at.invariant.so_far (c.stage_entry.ensures.clean clean) p sound these tells old
+          before in
           let so = rw steps at here in
           elim (stopped p clean q stands) [
-            | inl works ↦ (q, works.0, grows these _ _ p old before _ _ q so, rw at.invariant.count (counted_all these _ _ p old before _ _ q so))
+            | inl works ↦ (
+              q,
+              works.0,
+              grows these _ _ p old before _ _ q so,
+              rw at.invariant.count
+                  (counted_all these _ _ p old before _ _ q so),
+            )
             | inr doubt ↦ never_so _ (same ∙ c.requires.working) doubt.0
           ];
       session = tt;
@@ -174,7 +198,8 @@ returns g c =
     let at = c.loop-entry in
     let none = c.in-None.ensures.steps in
     let empty : into_iter_items at.entry-iterator ≡ [] = nothing_left _ (sym at.invariant.len ∙ none.0) in
-    let all : length at.yielded ≡ length c.args.entries.items = ap length (sym (append-nil at.yielded) ∙ rw empty at at.invariant.items) in
+    let all : length at.yielded ≡ length c.args.entries.items =
+    ap length (sym (append-nil at.yielded) ∙ rw empty at at.invariant.items) in
     record {
       clean = at.invariant.clean;
       answered = λ clean p sound these tells old before most.

@@ -20,11 +20,14 @@ invariant-loop-entry g l = record {
   working : g.A.Apply.has_failed l.editor ≡ false;
   folder : g.F.Folder.has_failed l.folder ≡ g.F.Folder.has_failed l.fn.folder;
   files : g.F.Folder.files l.folder ≡ g.F.Folder.files l.fn.folder;
-  kept : g.A.Apply.is_clean l.editor → (p : Package) → IsSound (g.A.Apply.seen l.fn.editor) p → (old : List Piece) → HasPieces p l.fn.edition old
-      → (q : Package) × IsSound (shown_since g.A.Apply l.fn.editor p l.editor).settled q × IsPassedBy (length l.yielded) l.fn.edition p old q;
+  kept : g.A.Apply.is_clean l.editor → (p : Package) → IsSound (g.A.Apply.seen l.fn.editor) p → (old : List Piece)
+      → HasPieces p l.fn.edition old
+      → (q : Package) × IsSound (shown_since g.A.Apply l.fn.editor p l.editor).settled q
+      × IsPassedBy (length l.yielded) l.fn.edition p old q;
   so_far : g.A.Apply.is_clean l.editor → (p : Package) → IsSound (g.A.Apply.seen l.fn.editor) p
       → (these : Files) → g.F.Folder.files l.fn.folder ≡ Some these
       → (old : List Piece) → HasPieces p l.fn.edition old
       → (q : Package) × IsSound (shown_since g.A.Apply l.fn.editor p l.editor).settled q
-      × IsImportedSoFar these l.fn.edition l.fn.entries.items (into_iter_items l.entry-iterator) p old (length l.yielded) q;
+      × IsImportedSoFar these l.fn.edition l.fn.entries.items (into_iter_items l.entry-iterator) p old
+      (length l.yielded) q;
 }

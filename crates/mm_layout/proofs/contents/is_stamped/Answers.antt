@@ -7,7 +7,8 @@ pub returns-in-Some : goal.returns-in-Some
 returns-in-Some g c =
     let decides = bytes_eq-Decides c.as_str.result.now c.args.last_change.now in
     tells c.in_ok-text.ensures (λ profile p says yes.
-    says ∙ ap (option_map string_bytes) c.in-Some.is ∙ ap Some (sym c.as_str.ensures.value ∙ decides.0 (sym c.eq.ensures ∙ yes)))
+    says ∙ ap (option_map string_bytes) c.in-Some.is
+    ∙ ap Some (sym c.as_str.ensures.value ∙ decides.0 (sym c.eq.ensures ∙ yes)))
 
 pub returns-in-None : goal.returns-in-None
 returns-in-None g c = tells c.in_ok-text.ensures (λ profile p says yes. absurd (let e : false ≡ true = yes in cc))

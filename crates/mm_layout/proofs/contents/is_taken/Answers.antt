@@ -11,7 +11,11 @@ returns-then-branch g c =
 pub returns-else-branch : goal.returns-else-branch
 returns-else-branch g c =
     goes_less (goes_on c.in_ok-has_table.ensures c.has_relation.ensures)
-    (λ profile p found when says. (refl, says.1 ∙ sym (ap (λ b. b || contains_key p.relations c.args.name.now) (sym says.0 ∙ c.if-branch.false))))
+    (λ profile p found when says. (
+      refl,
+      says.1
+          ∙ sym (ap (λ b. b || contains_key p.relations c.args.name.now) (sym says.0 ∙ c.if-branch.false)),
+    ))
 
 pub returns-in_err-has_table : goal.returns-in_err-has_table
 returns-in_err-has_table g c =

@@ -17,4 +17,5 @@ returns g c =
     asks_one last_change c.first_text.ensures (Words table ∷ []) (search rules)
     (λ version p db h x first gives finds.
     text_found parts.contents (db 1) p.contents h.contents table
-    (shows (col 1 5 ∷ []) (Words table ∷ [])) (λ (v : Contents). v.last_change) (λ r v is. columns_are r (contents_row table v) 4 is) x first gives finds)
+    (shows (col 1 5 ∷ []) (Words table ∷ [])) (λ (v : Contents). v.last_change)
+    (λ r v is. columns_are r (contents_row table v) 4 is) x first gives finds)

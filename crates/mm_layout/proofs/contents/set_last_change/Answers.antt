@@ -9,7 +9,8 @@ use Rattle.mm_layout.proofs.contents.set_last_change.Goals as goal
 
 pub returns-then-branch : goal.returns-then-branch
 returns-then-branch g c =
-    goes_as c.in_ok-is_stamped.ensures (λ profile p when says. (touched_already p c.args.table.now c.args.last_change.now (says c.if-branch.true), tt))
+    goes_as c.in_ok-is_stamped.ensures
+    (λ profile p when says. (touched_already p c.args.table.now c.args.last_change.now (says c.if-branch.true), tt))
 
 pub returns : goal.returns
 returns g c =

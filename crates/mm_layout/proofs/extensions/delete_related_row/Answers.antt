@@ -14,4 +14,5 @@ returns g c =
     let test = passes related_terms (Words mapping ∷ []) in
     deletes c.run.ensures statement.delete_related_row (Words mapping ∷ []) (search rules)
     (λ version db p h any.
-    put_extensions version db p h _ _ (uncounts (db 8) p.extensions h.extensions (mapping_extension mapping) test (related_test mapping)))
+    put_extensions version db p h _ _
+    (uncounts (db 8) p.extensions h.extensions (mapping_extension mapping) test (related_test mapping)))

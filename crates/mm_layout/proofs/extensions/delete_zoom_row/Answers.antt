@@ -14,4 +14,5 @@ returns g c =
     let test = passes zoom_terms (Words table ∷ []) in
     deletes c.run.ensures statement.delete_zoom_row (Words table ∷ []) (search rules)
     (λ version db p h any.
-    put_extensions version db p h _ _ (uncounts (db 8) p.extensions h.extensions (zoom_extension table) test (zoom_test table)))
+    put_extensions version db p h _ _
+    (uncounts (db 8) p.extensions h.extensions (zoom_extension table) test (zoom_test table)))

@@ -17,4 +17,5 @@ returns g c =
     asks_one statement.kind_of_table c.first_text.ensures (Words table ∷ []) (search rules)
     (λ version p db h x first gives finds.
     mapped_same (get p.kinds table) ∙ text_found parts.kinds (db 13) p.kinds h.kinds table
-    (shows (col 1 2 ∷ []) (Words table ∷ [])) (λ kind. kind) (λ r v is. columns_are r (kind_row table v) 1 is) x first gives finds)
+    (shows (col 1 2 ∷ []) (Words table ∷ [])) (λ kind. kind) (λ r v is. columns_are r (kind_row table v) 1 is) x first
+    gives finds)

@@ -1,7 +1,8 @@
 use Rattle.std.proofs.Common.{sym, ◌∙◌, refl}
 use Rattle.std.proofs.Math.Facts.{to_z-of_z}
 use Rattle.std.proofs.lemmas.Result.{err_from_is_err_and}
-use Rattle.mm_layout.proofs.Refusing.{pyramid_21, pyramid_22, pyramid_23, pyramid_24, pyramid_27, pyramid_free, empty_between, filled_between}
+use Rattle.mm_layout.proofs.Refusing.{pyramid_21, pyramid_22, pyramid_23, pyramid_24, pyramid_27, pyramid_free}
+use Rattle.mm_layout.proofs.Refusing.{empty_between, filled_between}
 use Rattle.mm_store.proofs.Going.{tells, goes_on, failed}
 use Rattle.mm_layout.proofs.pyramids.extent_or_refusal.Goals as goal
 
@@ -51,7 +52,11 @@ returns-then-branch g c = record {
 pub returns-in_err-is_taken : goal.returns-in_err-is_taken
 returns-in_err-is_taken g c =
     let p = err_from_is_err_and c.from_residual-in_err-is_taken.result c.from_residual-in_err-is_taken.ensures.1 in
-    rw (p.1, p.2) (record { extent = tt; refusal = failed (goes_on c.in_ok-has_system.ensures c.in_err-is_taken.ensures) refl })
+    rw (p.1, p.2) (record {
+      extent = tt;
+      refusal = failed (goes_on c.in_ok-has_system.ensures c.in_err-is_taken.ensures)
+          refl;
+    })
 
 pub returns-then-branch-2 : goal.returns-then-branch-2
 returns-then-branch-2 g c = record {
@@ -62,7 +67,8 @@ returns-then-branch-2 g c = record {
       let plane = sym (rw (to_z-of_z c.ranges.srs) at c.is_geographic.ensures) ∙ c.if-is_geographic.false in
       tells
       (goes_on
-      (goes_on (rw (to_z-of_z c.ranges.srs) at c.in_ok-has_system.ensures) c.in_ok-is_taken.ensures) c.in_ok-has_identifier.ensures)
+      (goes_on (rw (to_z-of_z c.ranges.srs) at c.in_ok-has_system.ensures) c.in_ok-is_taken.ensures)
+      c.in_ok-has_identifier.ensures)
       (λ profile p says step.
       pyramid_24 p a.table.now a.identifier.now a.srs b.min_x b.min_y b.max_x b.max_y step
       (sym says.0.0 ∙ c.if-not-branch.false) plane (sym says.0.1 ∙ c.if-branch.false)
@@ -71,7 +77,8 @@ returns-then-branch-2 g c = record {
 
 pub returns-in_err-has_identifier : goal.returns-in_err-has_identifier
 returns-in_err-has_identifier g c =
-    let p = err_from_is_err_and c.from_residual-in_err-has_identifier.result c.from_residual-in_err-has_identifier.ensures.1 in
+    let p = err_from_is_err_and c.from_residual-in_err-has_identifier.result
+    c.from_residual-in_err-has_identifier.ensures.1 in
     rw (p.1, p.2)
     (record {
       extent = tt;
@@ -89,7 +96,8 @@ returns-in-None g c = record {
       let plane = sym (rw (to_z-of_z r.srs) at c.is_geographic.ensures) ∙ c.if-is_geographic.false in
       let empty = empty_between b.min_x b.max_x b.min_y b.max_y c.extent.result c.extent.ensures.within c.in-None.is in
       tells
-      (goes_on (goes_on (rw (to_z-of_z r.srs) at c.in_ok-has_system.ensures) c.in_ok-is_taken.ensures) c.in_ok-has_identifier.ensures)
+      (goes_on (goes_on (rw (to_z-of_z r.srs) at c.in_ok-has_system.ensures) c.in_ok-is_taken.ensures)
+      c.in_ok-has_identifier.ensures)
       (λ profile p says step.
       pyramid_27 p a.table.now a.identifier.now a.srs b.min_x b.min_y b.max_x b.max_y step
       (sym says.0.0 ∙ c.if-not-branch.false) plane (sym says.0.1 ∙ c.if-branch.false)
@@ -104,9 +112,11 @@ returns-in-Some g c = record {
       let b = a.bounds.now in
       let r = c.ranges in
       let plane = sym (rw (to_z-of_z r.srs) at c.is_geographic.ensures) ∙ c.if-is_geographic.false in
-      let filled = filled_between b.min_x b.max_x b.min_y b.max_y c.extent.result c.in-Some.extent c.extent.ensures.within c.in-Some.is in
+      let filled = filled_between b.min_x b.max_x b.min_y b.max_y c.extent.result c.in-Some.extent
+      c.extent.ensures.within c.in-Some.is in
       tells
-      (goes_on (goes_on (rw (to_z-of_z r.srs) at c.in_ok-has_system.ensures) c.in_ok-is_taken.ensures) c.in_ok-has_identifier.ensures)
+      (goes_on (goes_on (rw (to_z-of_z r.srs) at c.in_ok-has_system.ensures) c.in_ok-is_taken.ensures)
+      c.in_ok-has_identifier.ensures)
       (λ profile p says step.
       pyramid_free p a.table.now a.identifier.now a.srs b.min_x b.min_y b.max_x b.max_y step
       (sym says.0.0 ∙ c.if-not-branch.false) plane (sym says.0.1 ∙ c.if-branch.false)

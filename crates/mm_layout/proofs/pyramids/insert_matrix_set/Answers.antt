@@ -16,7 +16,8 @@ returns g c =
     let e = a.extent.now in
     let row = set_row a.table.now value in
     inserts c.run.ensures statement.insert_matrix_set
-    (Words a.table.now ∷ Int a.srs ∷ Int e.min_x ∷ Int e.min_y ∷ Int e.max_x ∷ Int e.max_y ∷ []) (search rules) row refl refl
+    (Words a.table.now ∷ Int a.srs ∷ Int e.min_x ∷ Int e.min_y ∷ Int e.max_x ∷ Int e.max_y ∷ []) (search rules) row refl
+    refl
     (λ version db p h fresh free.
     put_sets version db p h _ _
     (puts parts.sets (db 4) p.sets h.sets a.table.now value _ free refl fresh))

@@ -20,21 +20,36 @@ pub returns-in_err-insert_plain_contents : goal.returns-in_err-insert_plain_cont
 returns-in_err-insert_plain_contents g c =
     let a = c.args in
     let table = c.as_str-table.result.now in
-    rw (← c.as_str-table.ensures.text) (lends_not c.in_ok-number.ensures (change_where (IsUnregistered table) c.in_err-insert_plain_contents.ensures (λ p new. new.0))
-    (λ profile p meets says. unregistered profile p meets table (table_is_new p table a.identifier.now a.kind (sym c.in_default.is ∙ says a.kind)))
+    rw (← c.as_str-table.ensures.text)
+    (lends_not c.in_ok-number.ensures
+    (change_where (IsUnregistered table) c.in_err-insert_plain_contents.ensures (λ p new. new.0))
+    (λ profile p meets says. unregistered profile p meets table
+    (table_is_new p table a.identifier.now a.kind (sym c.in_default.is ∙ says a.kind)))
     c.from_residual-in_err-insert_plain_contents.ensures.1)
 
 pub returns : goal.returns
 returns g c =
     let a = c.args in
     let table = c.as_str-table.result.now in
-    rw (← c.as_str-table.ensures.text) (lends c.in_ok-number.ensures (changes_then (change_where (IsUnregistered table) c.in_ok-insert_plain_contents.ensures (λ p new. new.0)) (rw c.text_of_kind.ensures at c.in_ok-insert_kind.ensures) (λ p new. new.1))
-    (λ profile p meets says. let none = sym c.in_default.is ∙ says a.kind in (unregistered profile p meets table (table_is_new p table a.identifier.now a.kind none), accepted_for _ (sym none), refl)))
+    rw (← c.as_str-table.ensures.text)
+    (lends c.in_ok-number.ensures (changes_then
+    (change_where (IsUnregistered table) c.in_ok-insert_plain_contents.ensures (λ p new. new.0))
+    (rw c.text_of_kind.ensures at c.in_ok-insert_kind.ensures) (λ p new. new.1))
+    (λ profile p meets says. let none = sym c.in_default.is
+    ∙ says a.kind in (
+      unregistered profile p meets table (table_is_new p table a.identifier.now a.kind none),
+      accepted_for _ (sym none),
+      refl,
+    )))
 
 pub returns-in_err-insert_kind : goal.returns-in_err-insert_kind
 returns-in_err-insert_kind g c =
     let a = c.args in
     let table = c.as_str-table.result.now in
-    rw (← c.as_str-table.ensures.text) (lends_not c.in_ok-number.ensures (changes_then (change_where (IsUnregistered table) c.in_ok-insert_plain_contents.ensures (λ p new. new.0)) c.in_err-insert_kind.ensures (λ p new. new.1))
-    (λ profile p meets says. unregistered profile p meets table (table_is_new p table a.identifier.now a.kind (sym c.in_default.is ∙ says a.kind)))
+    rw (← c.as_str-table.ensures.text)
+    (lends_not c.in_ok-number.ensures
+    (changes_then (change_where (IsUnregistered table) c.in_ok-insert_plain_contents.ensures (λ p new. new.0))
+    c.in_err-insert_kind.ensures (λ p new. new.1))
+    (λ profile p meets says. unregistered profile p meets table
+    (table_is_new p table a.identifier.now a.kind (sym c.in_default.is ∙ says a.kind)))
     c.from_residual-in_err-insert_kind.ensures.1)

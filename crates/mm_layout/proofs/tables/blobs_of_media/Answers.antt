@@ -25,10 +25,16 @@ returns g c = record {
       let old = state g.S.Store c.args.tx.now.conn.now in
       let new = state g.S.Store c.all.new.tx.conn.now in
       let table = c.args.table.now in
-      lists profile old new _ _ spare (λ rows. rows.items) (λ x rows. ListsEach rows.items (Freed medium_id x.kept.media (λ k. is_other table k.table))) c.all.result c.all.ensures.listed (λ rows ready shown.
-      let read = selects_all _ _ _ _ _ _ statement.blobs_of_media old new ready.schema_is (Words table ∷ []) _ (search rules) rows.items shown in (
+      lists profile old new _ _ spare (λ rows. rows.items)
+      (λ x rows. ListsEach rows.items (Freed medium_id x.kept.media (λ k. is_other table k.table))) c.all.result
+      c.all.ensures.listed (λ rows ready shown.
+      let read = selects_all _ _ _ _ _ _ statement.blobs_of_media old new ready.schema_is (Words table ∷ []) _
+      (search rules) rows.items shown in (
         read.1,
-        λ x h. lists_freed medium_id medium_row (seen old 19) x.kept.media (kept_in spare spare profile.version (seen old) x h).media (λ k. is_other table k.table) (passes (equals 1 0 ∷ []) (Words table ∷ [])) (shows (col 1 3 ∷ []) (Words table ∷ []))
-            (λ r k i z is gone named. hits_name table r k.table _ is gone) (λ r k i z is named. columns_are r (medium_row k i) 2 is ∙ ap maybe named) rows.items read.0,
+        λ x h. lists_freed medium_id medium_row (seen old 19) x.kept.media
+            (kept_in spare spare profile.version (seen old) x h).media (λ k. is_other table k.table)
+            (passes (equals 1 0 ∷ []) (Words table ∷ [])) (shows (col 1 3 ∷ []) (Words table ∷ []))
+            (λ r k i z is gone named. hits_name table r k.table _ is gone)
+            (λ r k i z is named. columns_are r (medium_row k i) 2 is ∙ ap maybe named) rows.items read.0,
       ));
 }

@@ -25,10 +25,16 @@ returns g c = record {
       let old = state g.S.Store c.args.tx.now.conn.now in
       let new = state g.S.Store c.all.new.tx.conn.now in
       let table = c.args.table.now in
-      lists profile old new _ _ spare (λ rows. rows.items) (λ x rows. ListsEach rows.items (Freed tile_id x.kept.tiles (λ k. is_other table k.table))) c.all.result c.all.ensures.listed (λ rows ready shown.
-      let read = selects_all _ _ _ _ _ _ statement.blobs_of_tiles old new ready.schema_is (Words table ∷ []) _ (search rules) rows.items shown in (
+      lists profile old new _ _ spare (λ rows. rows.items)
+      (λ x rows. ListsEach rows.items (Freed tile_id x.kept.tiles (λ k. is_other table k.table))) c.all.result
+      c.all.ensures.listed (λ rows ready shown.
+      let read = selects_all _ _ _ _ _ _ statement.blobs_of_tiles old new ready.schema_is (Words table ∷ []) _
+      (search rules) rows.items shown in (
         read.1,
-        λ x h. lists_freed tile_id tile_row (seen old 15) x.kept.tiles (kept_in spare spare profile.version (seen old) x h).tiles (λ k. is_other table k.table) (passes (equals 1 0 ∷ []) (Words table ∷ [])) (shows (col 1 5 ∷ []) (Words table ∷ []))
-            (λ r k i z is gone named. hits_name table r k.table _ is gone) (λ r k i z is named. columns_are r (tile_row k i) 4 is ∙ ap maybe named) rows.items read.0,
+        λ x h. lists_freed tile_id tile_row (seen old 15) x.kept.tiles
+            (kept_in spare spare profile.version (seen old) x h).tiles (λ k. is_other table k.table)
+            (passes (equals 1 0 ∷ []) (Words table ∷ [])) (shows (col 1 5 ∷ []) (Words table ∷ []))
+            (λ r k i z is gone named. hits_name table r k.table _ is gone)
+            (λ r k i z is named. columns_are r (tile_row k i) 4 is ∙ ap maybe named) rows.items read.0,
       ));
 }

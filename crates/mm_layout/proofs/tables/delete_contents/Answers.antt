@@ -19,9 +19,14 @@ returns g c = record {
       let old = state g.S.Store c.args.tx.now.conn.now in
       let new = state g.S.Store c.run.new.tx.conn.now in
       let table = c.args.table.now in
-      moves_less (λ base x _ y. (y.content ≡ without_table_rows table x.content) × IsSeen more profile new base y) old new c.run.result
-      (moves_run profile old new _ _ no_spare (cut table_place (Words table)) (λ x. (z : ℤ) → FreedByTable table x.kept z → more z ≡ true) (λ x. record { content = without_table_rows table x.content; kept = kept_without_table table x.kept }) more c.run.result c.run.ensures.run
-      (λ count ready h. cascaded _ _ _ _ _ _ statement.delete_table old new (Words table) _ (Ok count) ready (search rules) h)
+      moves_less (λ base x _ y. (y.content ≡ without_table_rows table x.content) × IsSeen more profile new base y) old
+      new c.run.result
+      (moves_run profile old new _ _ no_spare (cut table_place (Words table))
+      (λ x. (z : ℤ) → FreedByTable table x.kept z → more z ≡ true)
+      (λ x. record { content = without_table_rows table x.content; kept = kept_without_table table x.kept }) more
+      c.run.result c.run.ensures.run
+      (λ count ready h. cascaded _ _ _ _ _ _ statement.delete_table old new (Words table) _ (Ok count) ready
+      (search rules) h)
       (λ ready x h freed. holds_without table more profile.version (seen old) x h freed))
       (λ base x it. it) (λ base x y t it last. (ap (λ (v : View). v.content) last.0, last.1));
 }

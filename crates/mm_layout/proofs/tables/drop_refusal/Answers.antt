@@ -19,7 +19,8 @@ returns-then-branch g c =
 pub returns-else-branch : goal.returns-else-branch
 returns-else-branch g c =
     tells (goes_on c.in_ok-has_table.ensures c.in_ok-uses_table.ensures)
-    (λ profile p says. drop_free p c.args.table.now (sym says.0 ∙ c.if-not-branch.false) (sym says.1 ∙ c.if-branch.false))
+    (λ profile p says. drop_free p c.args.table.now (sym says.0 ∙ c.if-not-branch.false)
+    (sym says.1 ∙ c.if-branch.false))
 
 pub returns-in_err-uses_table : goal.returns-in_err-uses_table
 returns-in_err-uses_table g c =

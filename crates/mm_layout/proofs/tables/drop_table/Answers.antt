@@ -20,10 +20,14 @@ returns-in_err-delete_table g c =
 
 pub returns : goal.returns
 returns g c =
-    rw (← c.as_str-table.ensures.text) (applies c.in_ok-number.ensures (changes_then c.in_ok-delete_table.ensures c.in_ok-delete_zoom_row.ensures (λ p any. tt))
+    rw (← c.as_str-table.ensures.text)
+    (applies c.in_ok-number.ensures
+    (changes_then c.in_ok-delete_table.ensures c.in_ok-delete_zoom_row.ensures (λ p any. tt))
     (λ moment profile p meets says. (tt, accepted_for _ (sym says ∙ c.in_default.is), refl)))
 
 pub returns-in_err-delete_zoom_row : goal.returns-in_err-delete_zoom_row
 returns-in_err-delete_zoom_row g c =
-    rw (← c.as_str-table.ensures.text) (applies_not c.in_ok-number.ensures (changes_then c.in_ok-delete_table.ensures c.in_err-delete_zoom_row.ensures (λ p any. tt))
+    rw (← c.as_str-table.ensures.text)
+    (applies_not c.in_ok-number.ensures
+    (changes_then c.in_ok-delete_table.ensures c.in_err-delete_zoom_row.ensures (λ p any. tt))
     (λ profile p meets says. tt) c.from_residual-in_err-delete_zoom_row.ensures.1)

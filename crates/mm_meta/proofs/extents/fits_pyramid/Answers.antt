@@ -11,7 +11,8 @@ returns-in-Some g c =
     let a = c.args in
     let told = fits_is c.in-Some.extent (grid a.matrix.now) c.fits.result c.fits.ensures in
     tells c.in_ok-extent.ensures
-    (λ profile p says. let set = set_of (get p.sets a.table.now) c.in-Some.extent (says ∙ c.in-Some.is) in (set.0, set.1, told ∙ ap (λ (b : Box). is_product b (grid a.matrix.now)) (sym set.2)))
+    (λ profile p says. let set = set_of (get p.sets a.table.now) c.in-Some.extent (says ∙ c.in-Some.is) in
+    (set.0, set.1, told ∙ ap (λ (b : Box). is_product b (grid a.matrix.now)) (sym set.2)))
 
 pub returns-in-None : goal.returns-in-None
 returns-in-None g c = denied c.in_ok-extent.ensures (inr refl)

@@ -26,13 +26,18 @@ pub returns : goal.returns
 returns g c =
     let a = c.args in
     let table = c.as_str-table.result.now in
-    rw (← c.as_str-table.ensures.text) (lends c.in_ok-number.ensures (changes_then c.in_ok-insert_matrix.ensures c.in_ok-set_last_change.ensures (λ p new. tt))
-    (λ profile p meets says. let none = sym c.in_default.is ∙ says meets in (matrix_is_new p table a.zoom a.matrix.now none, accepted_for _ (sym none), refl)))
+    rw (← c.as_str-table.ensures.text)
+    (lends c.in_ok-number.ensures (changes_then c.in_ok-insert_matrix.ensures c.in_ok-set_last_change.ensures
+    (λ p new. tt))
+    (λ profile p meets says. let none = sym c.in_default.is
+    ∙ says meets in (matrix_is_new p table a.zoom a.matrix.now none, accepted_for _ (sym none), refl)))
 
 pub returns-in_err-set_last_change : goal.returns-in_err-set_last_change
 returns-in_err-set_last_change g c =
     let a = c.args in
     let table = c.as_str-table.result.now in
-    rw (← c.as_str-table.ensures.text) (lends_not c.in_ok-number.ensures (changes_then c.in_ok-insert_matrix.ensures c.in_err-set_last_change.ensures (λ p new. tt))
+    rw (← c.as_str-table.ensures.text)
+    (lends_not c.in_ok-number.ensures
+    (changes_then c.in_ok-insert_matrix.ensures c.in_err-set_last_change.ensures (λ p new. tt))
     (λ profile p meets says. matrix_is_new p table a.zoom a.matrix.now (sym c.in_default.is ∙ says meets))
     c.from_residual-in_err-set_last_change.ensures.1)

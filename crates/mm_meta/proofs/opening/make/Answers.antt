@@ -20,23 +20,30 @@ pub returns-in_err-put_systems-clause-makes : goal.returns-in_err-put_systems-cl
 returns-in_err-put_systems-clause-makes g c = record {
   same = search rules;
   made =
-      let p = err_from_is_err_and c.from_residual-in_err-put_systems.result c.from_residual-in_err-put_systems.ensures.1 in
-      rw (p.1, p.2) (making_failed current _ _ _ _ opening _ (creating_makes current _ _ _ _ _ _ _ _ c.in_ok-create_tables.ensures.makes.made c.in_err-put_systems.ensures.made));
+      let p = err_from_is_err_and c.from_residual-in_err-put_systems.result
+      c.from_residual-in_err-put_systems.ensures.1 in
+      rw (p.1, p.2) (making_failed current _ _ _ _ opening _
+      (creating_makes current _ _ _ _ _ _ _ _ c.in_ok-create_tables.ensures.makes.made
+      c.in_err-put_systems.ensures.made));
 }
 
 pub returns-clause-makes : goal.returns-clause-makes
 returns-clause-makes g c = record {
   same = search rules;
   made =
-      let made = creating_makes current _ _ _ _ _ _ _ _ c.in_ok-create_tables.ensures.makes.made c.in_ok-put_systems.ensures.made in
+      let made = creating_makes current _ _ _ _ _ _ _ _ c.in_ok-create_tables.ensures.makes.made
+      c.in_ok-put_systems.ensures.made in
       making_then current _ made c.insert_related_row.ensures general_free;
 }
 
 pub returns-in_err-create_tables-clause-again : goal.returns-in_err-create_tables-clause-again
-returns-in_err-create_tables-clause-again g c clean inside has = let p = err_from_is_err_and c.from_residual.result c.from_residual.ensures.1 in rw p.1 tt
+returns-in_err-create_tables-clause-again g c clean inside has = let p = err_from_is_err_and c.from_residual.result
+    c.from_residual.ensures.1 in rw p.1 tt
 
 pub returns-in_err-put_systems-clause-again : goal.returns-in_err-put_systems-clause-again
-returns-in_err-put_systems-clause-again g c clean inside has = let p = err_from_is_err_and c.from_residual-in_err-put_systems.result c.from_residual-in_err-put_systems.ensures.1 in rw p.1 tt
+returns-in_err-put_systems-clause-again g c clean inside has = let p =
+    err_from_is_err_and c.from_residual-in_err-put_systems.result c.from_residual-in_err-put_systems.ensures.1 in rw p.1
+    tt
 
 pub returns-clause-again : goal.returns-clause-again
 returns-clause-again g c =

@@ -17,21 +17,25 @@ pub returns-in_err-insert_system : goal.returns-in_err-insert_system
 returns-in_err-insert_system g c = record {
   same = search rules;
   made =
-      let p = err_from_is_err_and c.from_residual-in_err-insert_system.result c.from_residual-in_err-insert_system.ensures.1 in
+      let p = err_from_is_err_and c.from_residual-in_err-insert_system.result
+      c.from_residual-in_err-insert_system.ensures.1 in
       let made_0 = c.in_ok-insert_profile.ensures.made current refl in
       rw (p.1, p.2)
-      (making_failed current _ _ _ _ given_systems _ (making_then current _ made_0 c.in_err-insert_system.ensures first_free));
+      (making_failed current _ _ _ _ given_systems _
+      (making_then current _ made_0 c.in_err-insert_system.ensures first_free));
 }
 
 pub returns-in_err-insert_system-2 : goal.returns-in_err-insert_system-2
 returns-in_err-insert_system-2 g c = record {
   same = search rules;
   made =
-      let p = err_from_is_err_and c.from_residual-in_err-insert_system-2.result c.from_residual-in_err-insert_system-2.ensures.1 in
+      let p = err_from_is_err_and c.from_residual-in_err-insert_system-2.result
+      c.from_residual-in_err-insert_system-2.ensures.1 in
       let made_0 = c.in_ok-insert_profile.ensures.made current refl in
       let made_1 = making_then current _ made_0 c.in_ok-insert_system.ensures first_free in
       rw (p.1, p.2)
-      (making_failed current _ _ _ _ given_systems _ (making_then current _ made_1 c.in_err-insert_system-2.ensures second_free));
+      (making_failed current _ _ _ _ given_systems _
+      (making_then current _ made_1 c.in_err-insert_system-2.ensures second_free));
 }
 
 pub returns : goal.returns

@@ -16,7 +16,10 @@ returns g c = record {
       let old = state g.S.Store c.args.tx.now.conn.now in
       let new = state g.S.Store c.run.new.tx.conn.now in
       let version = c.args.version in
-      makes profile old new _ _ (λ db. with_tree db 12 (put_row (profile_row version) (db 12))) nothing c.run.result c.run.ensures.run
-      (λ count ready h. has_inserted _ _ _ _ _ _ statement.insert_profile old new ready (Int (pos 1) ∷ Int version ∷ []) _ (Ok count) (Int (pos 1)) (Null ∷ Int version ∷ []) refl refl refl (search rules) h)
-      (λ db none. subst (λ v. Holding v (with_tree db 12 (put_row (profile_row version) (db 12))) nothing) (sym same) (nothing_holds version db none));
+      makes profile old new _ _ (λ db. with_tree db 12 (put_row (profile_row version) (db 12))) nothing c.run.result
+      c.run.ensures.run
+      (λ count ready h. has_inserted _ _ _ _ _ _ statement.insert_profile old new ready (Int (pos 1) ∷ Int version ∷ [])
+      _ (Ok count) (Int (pos 1)) (Null ∷ Int version ∷ []) refl refl refl (search rules) h)
+      (λ db none. subst (λ v. Holding v (with_tree db 12 (put_row (profile_row version) (db 12))) nothing) (sym same)
+      (nothing_holds version db none));
 }

@@ -8,6 +8,7 @@ returns g c = record {
   same = search rules;
   made =
       let made_0 = creates_one _ _ _ _ _ _ statement.gpkg_extensions _ c.in_ok-run.ensures.run in
-      let made_1 = creating_then _ _ _ _ _ _ _ _ made_0 (creates_one _ _ _ _ _ _ statement.gpkgext_relations _ c.in_ok-run-2.ensures.run) in
+      let made_1 = creating_then _ _ _ _ _ _ _ _ made_0
+      (creates_one _ _ _ _ _ _ statement.gpkgext_relations _ c.in_ok-run-2.ensures.run) in
       creating_then _ _ _ _ _ _ _ _ made_1 (creates_one _ _ _ _ _ _ statement.mm_profile _ c.run-3.ensures.run);
 }

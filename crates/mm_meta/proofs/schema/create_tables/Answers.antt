@@ -18,6 +18,9 @@ returns-clause-makes g c = record {
 
 pub returns-clause-again : goal.returns-clause-again
 returns-clause-again g c =
-    let last = quiet_then _ _ _ c.in_ok-create_blob_table.ensures.made.survives c.create_mapping_index.ensures.made.survives in
-    let later = quiet_then _ _ _ c.in_ok-create_content_tables.ensures.made.survives (quiet_then _ _ _ c.in_ok-create_edition_tables.ensures.made.survives last) in
-    none_again_then (state g.S.Store c.args.tx.now.conn.now) _ _ _ c.in_ok-create_pyramid_tables.ensures.again (quiet_then _ _ _ c.in_ok-create_further_tables.ensures.made.survives later)
+    let last = quiet_then _ _ _ c.in_ok-create_blob_table.ensures.made.survives
+    c.create_mapping_index.ensures.made.survives in
+    let later = quiet_then _ _ _ c.in_ok-create_content_tables.ensures.made.survives
+    (quiet_then _ _ _ c.in_ok-create_edition_tables.ensures.made.survives last) in
+    none_again_then (state g.S.Store c.args.tx.now.conn.now) _ _ _ c.in_ok-create_pyramid_tables.ensures.again
+    (quiet_then _ _ _ c.in_ok-create_further_tables.ensures.made.survives later)

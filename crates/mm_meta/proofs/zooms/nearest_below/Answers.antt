@@ -13,5 +13,9 @@ returns g c =
     let a = c.args in
     looks c.first_zoomed.ensures
     (λ x first ready shown gives.
-    let read = selects_first _ _ _ _ _ _ _ _ old new ready.schema_is (at_zoom a.table.now (pos a.zoom)) _ (search rules) statement.matrix_below first shown in
-    (read.0, λ version p h. below_found (seen old 6) p.matrices h.matrices a.table.now (pos a.zoom) x first gives read.1))
+    let read = selects_first _ _ _ _ _ _ _ _ old new ready.schema_is (at_zoom a.table.now (pos a.zoom)) _ (search rules)
+    statement.matrix_below first shown in (
+      read.0,
+      λ version p h. below_found (seen old 6) p.matrices h.matrices a.table.now (pos a.zoom) x first gives
+          read.1,
+    ))

@@ -9,14 +9,18 @@ pub returns-in-Ok-commit-clause-rescaled : goal.returns-in-Ok-commit-clause-resc
 returns-in-Ok-commit-clause-rescaled g c =
     let end = c.commit.new.self.0 in
     let it : IsRescaled (state g.S.Store c.args.conn.now) (state g.S.Store end) (Ok tt) =
-    committed g.S.Store c.args.conn.now c.transaction-tx.result.conn.now c.transaction-tx.ensures.begun (state g.S.Store c.scale_all.new.tx.conn.now) (state g.S.Store end)
-    _ c.in-Ok.ensures.moved c.commit.ensures.survives (λ db. g.met.S.Store.settled end.store db) (λ clean. (c.in-Ok-commit.ensures.ok clean).1) in
+    committed g.S.Store c.args.conn.now c.transaction-tx.result.conn.now c.transaction-tx.ensures.begun
+    (state g.S.Store c.scale_all.new.tx.conn.now) (state g.S.Store end)
+    _ c.in-Ok.ensures.moved c.commit.ensures.survives (λ db. g.met.S.Store.settled end.store db)
+    (λ clean. (c.in-Ok-commit.ensures.ok clean).1) in
     search rules
 
 pub returns-in-Err-commit-clause-rescaled : goal.returns-in-Err-commit-clause-rescaled
 returns-in-Err-commit-clause-rescaled g c =
     let end = c.commit.new.self.0 in
     let it : IsRescaled (state g.S.Store c.args.conn.now) (state g.S.Store end) (Err c.fault_of.result) =
-    in_doubt g.S.Store c.args.conn.now c.transaction-tx.result.conn.now c.transaction-tx.ensures.begun (state g.S.Store c.scale_all.new.tx.conn.now) (state g.S.Store end)
-    _ c.in-Ok.ensures.moved c.commit.ensures.survives c.fault_of.result (told_fault _ c.fault_of.result c.fault_of.ensures) in
+    in_doubt g.S.Store c.args.conn.now c.transaction-tx.result.conn.now c.transaction-tx.ensures.begun
+    (state g.S.Store c.scale_all.new.tx.conn.now) (state g.S.Store end)
+    _ c.in-Ok.ensures.moved c.commit.ensures.survives c.fault_of.result
+    (told_fault _ c.fault_of.result c.fault_of.ensures) in
     search rules

@@ -18,7 +18,8 @@ returns g c = record {
   moved = λ from.
       let old = state g.S.Store c.args.tx.now.conn.now in
       let new = state g.S.Store c.run.new.tx.conn.now in
-      moves from micrometres old new _ _ (λ db. with_tree db 12 (map (updated mm_profile version_sets []) (db 12))) (λ p. ⊤) (λ p. p) c.run.result c.run.ensures.run
+      moves from micrometres old new _ _ (λ db. with_tree db 12 (map (updated mm_profile version_sets []) (db 12)))
+      (λ p. ⊤) (λ p. p) c.run.result c.run.ensures.run
       (λ count ready h. has_changed _ _ _ _ _ _ statement.version old new ready [] _ (Ok count) (search rules) h)
       (λ p h any. scaling.renamed from.version (seen old) p h);
 }

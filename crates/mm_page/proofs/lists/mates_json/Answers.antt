@@ -13,7 +13,11 @@ pub returns : goal.returns
 returns c =
     let entries = c.args.mates.now in
     let all : take c.loop-mate.mate-index entries ≡ entries = take_all c.loop-mate.mate-index entries (omega arith) in
-    let made : map view c.loop-mate.values.items ≡ map mate_data (map mate_told entries) = c.loop-mate.invariant ∙ ap (λ l. map mate_data (map mate_told l)) all in
-    let shape : view (Value.Array c.loop-mate.values) ≡ array (items_of (map view c.loop-mate.values.items)) = search (rules, the_lemmas) in
-    let same : view (Value.Array c.loop-mate.values) ≡ array (items_of (map mate_data (map mate_told entries))) = shape ∙ ap (λ l. array (items_of l)) made in
-    text_told _ _ string_bytes c.to_string.result same (all_clean mate_data mate_clean (map mate_told entries)) c.to_string.ensures.text
+    let made : map view c.loop-mate.values.items ≡ map mate_data (map mate_told entries) = c.loop-mate.invariant
+    ∙ ap (λ l. map mate_data (map mate_told l)) all in
+    let shape : view (Value.Array c.loop-mate.values) ≡ array (items_of (map view c.loop-mate.values.items)) =
+    search (rules, the_lemmas) in
+    let same : view (Value.Array c.loop-mate.values) ≡ array (items_of (map mate_data (map mate_told entries))) = shape
+    ∙ ap (λ l. array (items_of l)) made in
+    text_told _ _ string_bytes c.to_string.result same (all_clean mate_data mate_clean (map mate_told entries))
+    c.to_string.ensures.text

@@ -12,8 +12,13 @@ use Rattle.mm_page.proofs.lists.tables_json.Goals as goal
 pub returns : goal.returns
 returns c =
     let entries = c.args.tables.now in
-    let all : take c.loop-entry.entry-index entries ≡ entries = take_all c.loop-entry.entry-index entries (omega arith) in
-    let made : map view c.loop-entry.values.items ≡ map table_data (map table_told entries) = c.loop-entry.invariant ∙ ap (λ l. map table_data (map table_told l)) all in
-    let shape : view (Value.Array c.loop-entry.values) ≡ array (items_of (map view c.loop-entry.values.items)) = search (rules, the_lemmas) in
-    let same : view (Value.Array c.loop-entry.values) ≡ array (items_of (map table_data (map table_told entries))) = shape ∙ ap (λ l. array (items_of l)) made in
-    text_told _ _ string_bytes c.to_string.result same (all_clean table_data table_clean (map table_told entries)) c.to_string.ensures.text
+    let all : take c.loop-entry.entry-index entries ≡ entries = take_all c.loop-entry.entry-index entries
+    (omega arith) in
+    let made : map view c.loop-entry.values.items ≡ map table_data (map table_told entries) = c.loop-entry.invariant
+    ∙ ap (λ l. map table_data (map table_told l)) all in
+    let shape : view (Value.Array c.loop-entry.values) ≡ array (items_of (map view c.loop-entry.values.items)) =
+    search (rules, the_lemmas) in
+    let same : view (Value.Array c.loop-entry.values) ≡ array (items_of (map table_data (map table_told entries))) =
+    shape ∙ ap (λ l. array (items_of l)) made in
+    text_told _ _ string_bytes c.to_string.result same (all_clean table_data table_clean (map table_told entries))
+    c.to_string.ensures.text

@@ -8,7 +8,8 @@ use Rattle.mm_page.proofs.AskFacts.{ascii_text, matched, media_only, related_onl
 use Rattle.mm_page.proofs.routes.find_route.Goals as goal
 
 pub returns-in_default : goal.returns-in_default
-returns-in_default g = untaken g.args.path.now (ascii_text g.args.path.now g.requires.ascii) (rw g.requires.routes at g.in_default.ensures.missing)
+returns-in_default g = untaken g.args.path.now (ascii_text g.args.path.now g.requires.ascii)
+    (rw g.requires.routes at g.in_default.ensures.missing)
 
 pub returns-in-Tile : goal.returns-in-Tile
 returns-in-Tile g =
@@ -17,7 +18,8 @@ returns-in-Tile g =
     let f = g.in-Ok.found.params in
     let same = ap (λ p. walk f.pattern.now f.text.now p f.names.now 0 0) g.in-Ok.ensures.path ∙ pairs in
     let told = g.tile_wanted.ensures t z c r (subst AllText (sym same) all, same, pt, pz, pc, pr) in
-    subst (λ p. MatchOption g.tile_wanted.result ((w : Wanted) → ¬ (IsRouted p w)) (λ w. IsRouted p (asked w))) (sym is) told
+    subst (λ p. MatchOption g.tile_wanted.result ((w : Wanted) → ¬ (IsRouted p w)) (λ w. IsRouted p (asked w))) (sym is)
+    told
 
 pub returns-in-Some : goal.returns-in-Some
 returns-in-Some g =

@@ -36,4 +36,13 @@ returns g = λ t z c r h.
     let wz = whole g.in-Some-number_of.zoom nz.1 in
     let wc = whole g.in-Some-number_of-2.column nc.1 in
     let wr = whole g.in-Some-number_of-3.row nr.1 in
-    rw (to_z-of_z w64 g.in-Some-number_of.zoom fz, to_z-of_z w64 g.in-Some-number_of-2.column fc, to_z-of_z w64 g.in-Some-number_of-3.row fr, wz, wc, wr, e) (z, c, r, refl, name, nz, nc, nr)
+    rw (
+      to_z-of_z w64 g.in-Some-number_of.zoom fz,
+      to_z-of_z w64 g.in-Some-number_of-2.column fc,
+      to_z-of_z w64
+          g.in-Some-number_of-3.row fr,
+      wz,
+      wc,
+      wr,
+      e,
+    ) (z, c, r, refl, name, nz, nc, nr)

@@ -15,7 +15,8 @@ returns-in-Some g c =
       same = c.reply.ensures.same;
       kept = c.reply.ensures.kept;
       response = λ p on.
-          weaker (λ v. v.items ≡ response_of (reply_of p wanted)) (λ v. WritesTo p c.args.path.now v.items) c.reply.result
+          weaker (λ v. v.items ≡ response_of (reply_of p wanted)) (λ v. WritesTo p c.args.path.now v.items)
+          c.reply.result
           (λ v e. inl (wanted, asks, e))
           (given (λ v. v.items) (response_of (reply_of p wanted)) c.reply.result (c.reply.ensures.reply p on));
       needed = IfErr-weaker c.reply.result _ _ (λ fault told is. (wanted, asks)) c.reply.ensures.fault;

@@ -63,5 +63,13 @@ returns g c =
       frugal = tt;
       frugal_fault = inr c.in-Ok.ensures.frugal;
       needed = λ is. absurd (omega arith);
-      stopped = inr (inr (refl, failed, c.in-Ok.response.items, c.in-Ok.ensures.response, k, omega (arith, less), front));
+      stopped = inr (inr (
+        refl,
+        failed,
+        c.in-Ok.response.items,
+        c.in-Ok.ensures.response,
+        k,
+        omega (arith, less),
+        front,
+      ));
     }

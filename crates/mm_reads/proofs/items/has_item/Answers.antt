@@ -14,8 +14,13 @@ returns-then-branch g c =
 pub returns-else-branch : goal.returns-else-branch
 returns-else-branch g c =
     let a = c.args in
-    goes_less (goes_on (rw (to_z-of_z c.ranges.id) at c.in_ok-has_row.ensures) (rw (to_z-of_z c.ranges.id) at c.has_medium.ensures))
-    (λ profile p found when says. (refl, says.1 ∙ sym (ap (λ b. b || contains_key p.media (item a.table.now a.id)) (sym says.0 ∙ c.if-branch.false))))
+    goes_less (goes_on (rw (to_z-of_z c.ranges.id) at c.in_ok-has_row.ensures)
+    (rw (to_z-of_z c.ranges.id) at c.has_medium.ensures))
+    (λ profile p found when says. (
+      refl,
+      says.1
+          ∙ sym (ap (λ b. b || contains_key p.media (item a.table.now a.id)) (sym says.0 ∙ c.if-branch.false)),
+    ))
 
 pub returns-in_err-has_row : goal.returns-in_err-has_row
 returns-in_err-has_row g c =

@@ -11,7 +11,9 @@ returns-clause-read g c profile =
     let end = c.rollback.new.self.0 in
     let same : end ≡ c.conn-1.given.0 = search rules in
     let a = c.args in
-    let it : IsRead profile (state g.S.Store a.conn.now) (state g.S.Store end) (λ p found. found ≡ is_item p a.table.now a.id) c.has_item-found.result =
+    let it : IsRead profile (state g.S.Store a.conn.now) (state g.S.Store end)
+    (λ p found. found ≡ is_item p a.table.now a.id) c.has_item-found.result =
     reads c.transaction-tx.ensures.begun
-    (rw (to_z-of_z c.ranges.id) at c.has_item-found.ensures) c.rollback.ensures.survives c.rollback.ensures.undone profile in
+    (rw (to_z-of_z c.ranges.id) at c.has_item-found.ensures) c.rollback.ensures.survives c.rollback.ensures.undone
+    profile in
     rw same at it

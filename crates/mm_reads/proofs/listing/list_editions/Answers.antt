@@ -9,10 +9,13 @@ use Rattle.mm_reads.proofs.listing.list_editions.Goals as goal
 pub returns-clause-listed : goal.returns-clause-listed
 returns-clause-listed g c profile =
     let end = c.show_editions-shown.new.lines.output.now in
-    let it : IsListed profile editions (state g.S.Store c.args.conn.now) (state g.S.Store c.show_editions-shown.new.conn) (written g.W.Write.contents c.args.output.now) (written g.W.Write.contents end) c.show_editions-shown.result =
+    let it : IsListed profile editions (state g.S.Store c.args.conn.now)
+    (state g.S.Store c.show_editions-shown.new.conn) (written g.W.Write.contents c.args.output.now)
+    (written g.W.Write.contents end) c.show_editions-shown.result =
     c.show_editions-shown.ensures.listed profile in
     search rules
 
 pub returns-clause-out : goal.returns-clause-out
 returns-clause-out g c =
-    let it : IsOut c.args.output.now → IsOut c.show_editions-shown.new.lines.output.now = c.show_editions-shown.ensures.out in search rules
+    let it : IsOut c.args.output.now → IsOut c.show_editions-shown.new.lines.output.now =
+    c.show_editions-shown.ensures.out in search rules

@@ -4,5 +4,13 @@ use Rattle.mm_reads.proofs.listing.send_line.Goals as goal
 
 pub returns-in-Cut-clause-sent : goal.returns-in-Cut-clause-sent
 returns-in-Cut-clause-sent g c =
-    let cut = c.in-Cut.ensures.sent in
-    (refl, cut.0, (take cut.1 c.args.line.now, drop cut.1 c.args.line.now, sym (take-append-drop cut.1 c.args.line.now), cut.3))
+    let cut = c.in-Cut.ensures.sent in (
+      refl,
+      cut.0,
+      (
+        take cut.1 c.args.line.now,
+        drop cut.1 c.args.line.now,
+        sym (take-append-drop cut.1 c.args.line.now),
+        cut.3,
+      ),
+    )

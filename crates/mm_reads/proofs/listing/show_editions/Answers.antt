@@ -14,8 +14,12 @@ returns-clause-same_reference g c = kept c.walk.ensures (λ v. v.output.ghost_na
 
 pub returns-clause-listed : goal.returns-clause-listed
 returns-clause-listed g c profile =
-    subst (λ r. IsListed profile editions (state g.S.Store c.args.conn.now) (state g.S.Store c.walk.new.conn) (written g.W.Write.contents c.args.lines.now.output.now) (written g.W.Write.contents c.walk.new.visitor.output.now) (done_of r)) c.in_ok-walk.was
-    (editions_listed _ (λ v. g.W.Write.contents (inside v.output.now)) (λ v. has_failed v.output.now) (λ v u row result h. h.1) (state g.S.Store c.args.conn.now) (state g.S.Store c.walk.new.conn) c.args.lines.now c.walk.new.visitor profile c.walk.result c.walk.ensures)
+    subst (λ r. IsListed profile editions (state g.S.Store c.args.conn.now) (state g.S.Store c.walk.new.conn)
+    (written g.W.Write.contents c.args.lines.now.output.now) (written g.W.Write.contents c.walk.new.visitor.output.now)
+    (done_of r)) c.in_ok-walk.was
+    (editions_listed _ (λ v. g.W.Write.contents (inside v.output.now)) (λ v. has_failed v.output.now)
+    (λ v u row result h. h.1) (state g.S.Store c.args.conn.now) (state g.S.Store c.walk.new.conn) c.args.lines.now
+    c.walk.new.visitor profile c.walk.result c.walk.ensures)
 
 pub returns-in_err-walk-clause-same_reference : goal.returns-in_err-walk-clause-same_reference
 returns-in_err-walk-clause-same_reference g c = kept c.walk.ensures (λ v. v.output.ghost_name) (λ v u row result h. h.0)
@@ -23,8 +27,12 @@ returns-in_err-walk-clause-same_reference g c = kept c.walk.ensures (λ v. v.out
 pub returns-in_err-walk-clause-listed : goal.returns-in_err-walk-clause-listed
 returns-in_err-walk-clause-listed g c profile =
     let p = err_from_is_err_and c.from_residual.result c.from_residual.ensures.1 in
-    rw (p.1, p.2) (subst (λ r. IsListed profile editions (state g.S.Store c.args.conn.now) (state g.S.Store c.walk.new.conn) (written g.W.Write.contents c.args.lines.now.output.now) (written g.W.Write.contents c.walk.new.visitor.output.now) (done_of r)) c.in_err-walk.was
-    (editions_listed _ (λ v. g.W.Write.contents (inside v.output.now)) (λ v. has_failed v.output.now) (λ v u row result h. h.1) (state g.S.Store c.args.conn.now) (state g.S.Store c.walk.new.conn) c.args.lines.now c.walk.new.visitor profile c.walk.result c.walk.ensures))
+    rw (p.1, p.2) (subst (λ r. IsListed profile editions (state g.S.Store c.args.conn.now)
+    (state g.S.Store c.walk.new.conn) (written g.W.Write.contents c.args.lines.now.output.now)
+    (written g.W.Write.contents c.walk.new.visitor.output.now) (done_of r)) c.in_err-walk.was
+    (editions_listed _ (λ v. g.W.Write.contents (inside v.output.now)) (λ v. has_failed v.output.now)
+    (λ v u row result h. h.1) (state g.S.Store c.args.conn.now) (state g.S.Store c.walk.new.conn) c.args.lines.now
+    c.walk.new.visitor profile c.walk.result c.walk.ensures))
 
 pub returns-clause-out : goal.returns-clause-out
 returns-clause-out g c = still c.walk.ensures (λ v. IsOut v.output.now) (λ v u row result h. h.2)

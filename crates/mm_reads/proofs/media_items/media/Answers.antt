@@ -13,7 +13,9 @@ returns-clause-read g c profile =
     let end = c.rollback.new.self.0 in
     let same : end ≡ c.conn-1.given.0 = search rules in
     let a = c.args in
-    let it : IsRead profile (state g.S.Store a.conn.now) (state g.S.Store end) (λ p found. get p.media (item a.table.now a.id) ≡ option_map shown_medium found) c.medium_at-found.result =
+    let it : IsRead profile (state g.S.Store a.conn.now) (state g.S.Store end)
+    (λ p found. get p.media (item a.table.now a.id) ≡ option_map shown_medium found) c.medium_at-found.result =
     reads c.transaction-tx.ensures.begun
-    (rw (c.as_str.ensures.text, to_z-of_z c.ranges.id) at c.medium_at-found.ensures) c.rollback.ensures.survives c.rollback.ensures.undone profile in
+    (rw (c.as_str.ensures.text, to_z-of_z c.ranges.id) at c.medium_at-found.ensures) c.rollback.ensures.survives
+    c.rollback.ensures.undone profile in
     rw same at it

@@ -22,9 +22,13 @@ returns g c = record {
       let new = state g.S.Store c.first.new.tx.conn.now in
       let key = item c.args.table.now c.args.id in
       let params = Words key.table ∷ Int key.id ∷ [] in
-      looks profile old new _ _ spare (λ (it : Option Row) first. it ≡ first) (λ x row. IsMediumRow (get x.kept.media key) row × Told medium_id medium_with x.kept.shelf (get x.kept.media key) (get x.content.media key)) c.first.result c.first.ensures.asked (λ it first ready shown gives.
-      let read = selects_one _ _ _ _ _ _ statement.medium_values old new ready.schema_is params _ (search rules) first shown in (
+      looks profile old new _ _ spare (λ (it : Option Row) first. it ≡ first)
+      (λ x row. IsMediumRow (get x.kept.media key) row × Told medium_id medium_with x.kept.shelf (get x.kept.media key)
+      (get x.content.media key)) c.first.result c.first.ensures.asked (λ it first ready shown gives.
+      let read = selects_one _ _ _ _ _ _ statement.medium_values old new ready.schema_is params _ (search rules) first
+      shown in (
         read.0,
-        λ x h. let kept = kept_in spare spare profile.version (seen old) x h in (medium_found (seen old 19) x.kept.media kept.media key params it first gives read.1, kept.media_told key),
+        λ x h. let kept = kept_in spare spare profile.version (seen old) x h in
+            (medium_found (seen old 19) x.kept.media kept.media key params it first gives read.1, kept.media_told key),
       ));
 }

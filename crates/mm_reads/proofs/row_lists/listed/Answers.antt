@@ -17,7 +17,9 @@ returns-clause-read g c profile =
     let old = state g.S.Store c.args.conn.now in
     let new = state g.S.Store c.walk.new.conn in
     let begun : Gathered = record { rows = c.new.result } in
-    read_by_walk takes (λ (v : Gathered). v.rows.items) (λ v u row result h. h) c.args.table.now c.args.first _ (search rules) old new begun c.walk.new.visitor c.new.ensures.items profile c.walk.result (Ok c.walk.new.visitor.rows) c.walk.ensures
+    read_by_walk takes (λ (v : Gathered). v.rows.items) (λ v u row result h. h) c.args.table.now c.args.first _
+    (search rules) old new begun c.walk.new.visitor c.new.ensures.items profile c.walk.result
+    (Ok c.walk.new.visitor.rows) c.walk.ensures
     (subst (λ r. Found c.walk.new.visitor.rows.items r (Ok c.walk.new.visitor.rows)) (sym c.in_ok-walk.was) refl)
 
 pub returns-in_err-walk-clause-read : goal.returns-in_err-walk-clause-read
@@ -26,5 +28,7 @@ returns-in_err-walk-clause-read g c profile =
     let old = state g.S.Store c.args.conn.now in
     let new = state g.S.Store c.walk.new.conn in
     let begun : Gathered = record { rows = c.new.result } in
-    rw (p.1, p.2) (read_by_walk takes (λ (v : Gathered). v.rows.items) (λ v u row result h. h) c.args.table.now c.args.first _ (search rules) old new begun c.walk.new.visitor c.new.ensures.items profile c.walk.result (Err c.in_err-walk.field-0.0) c.walk.ensures
+    rw (p.1, p.2) (read_by_walk takes (λ (v : Gathered). v.rows.items) (λ v u row result h. h) c.args.table.now
+    c.args.first _ (search rules) old new begun c.walk.new.visitor c.new.ensures.items profile c.walk.result
+    (Err c.in_err-walk.field-0.0) c.walk.ensures
     (subst (λ r. Found c.walk.new.visitor.rows.items r (Err c.in_err-walk.field-0.0)) (sym c.in_err-walk.was) refl))

@@ -6,21 +6,25 @@ use Rattle.mm_reads.proofs.row_lists.rows_from.Goals as goal
 
 pub returns-then-not-branch-clause-read : goal.returns-then-not-branch-clause-read
 returns-then-not-branch-clause-read g c profile =
-    rw (← c.as_str-table.ensures.text) (read_as profile _ _ _ _ (c.in_ok-has_rows.ensures.read profile) (λ p says. sym says ∙ c.if-not-branch.true))
+    rw (← c.as_str-table.ensures.text)
+    (read_as profile _ _ _ _ (c.in_ok-has_rows.ensures.read profile) (λ p says. sym says ∙ c.if-not-branch.true))
 
 pub returns-in_err-has_rows-clause-read : goal.returns-in_err-has_rows-clause-read
 returns-in_err-has_rows-clause-read g c profile =
     let p = err_from_is_err_and c.from_residual.result c.from_residual.ensures.1 in
-    rw (p.1, p.2) (rw (← c.as_str-table.ensures.text) (read_failed profile _ _ _ (c.in_err-has_rows.ensures.read profile)))
+    rw (p.1, p.2) (rw (← c.as_str-table.ensures.text)
+    (read_failed profile _ _ _ (c.in_err-has_rows.ensures.read profile)))
 
 pub returns-clause-read : goal.returns-clause-read
 returns-clause-read g c profile =
     rw (← c.as_str-table.ensures.text)
-    (read_as profile _ _ _ _ (reads_then profile _ _ _ _ _ (c.in_ok-has_rows.ensures.read profile) ((rw (to_z-of_z c.ranges.first) at c.in_ok-rows.ensures.read) profile))
+    (read_as profile _ _ _ _ (reads_then profile _ _ _ _ _ (c.in_ok-has_rows.ensures.read profile)
+    ((rw (to_z-of_z c.ranges.first) at c.in_ok-rows.ensures.read) profile))
     (λ p says. (sym says.0 ∙ c.if-not-branch.false, says.1)))
 
 pub returns-in_err-rows-clause-read : goal.returns-in_err-rows-clause-read
 returns-in_err-rows-clause-read g c profile =
     let p = err_from_is_err_and c.from_residual-in_err-rows.result c.from_residual-in_err-rows.ensures.1 in
     rw (p.1, p.2) (rw (← c.as_str-table.ensures.text)
-    (read_failed profile _ _ _ (reads_then profile _ _ _ _ _ (c.in_ok-has_rows.ensures.read profile) (c.in_err-rows.ensures.read profile))))
+    (read_failed profile _ _ _ (reads_then profile _ _ _ _ _ (c.in_ok-has_rows.ensures.read profile)
+    (c.in_err-rows.ensures.read profile))))

@@ -17,7 +17,8 @@ returns-clause-read g c profile =
     let old = state g.S.Store c.args.conn.now in
     let new = state g.S.Store c.walk.new.conn in
     let begun : Gathered = record { entries = c.new.result } in
-    read_by_walk takes (λ (v : Gathered). v.entries.items) (λ v u row result h. h) old new begun c.walk.new.visitor c.new.ensures.items profile c.walk.result (Ok c.walk.new.visitor.entries) c.walk.ensures
+    read_by_walk takes (λ (v : Gathered). v.entries.items) (λ v u row result h. h) old new begun c.walk.new.visitor
+    c.new.ensures.items profile c.walk.result (Ok c.walk.new.visitor.entries) c.walk.ensures
     (subst (λ r. Found c.walk.new.visitor.entries.items r (Ok c.walk.new.visitor.entries)) (sym c.in_ok-walk.was) refl)
 
 pub returns-in_err-walk-clause-read : goal.returns-in_err-walk-clause-read
@@ -26,5 +27,6 @@ returns-in_err-walk-clause-read g c profile =
     let old = state g.S.Store c.args.conn.now in
     let new = state g.S.Store c.walk.new.conn in
     let begun : Gathered = record { entries = c.new.result } in
-    rw (p.1, p.2) (read_by_walk takes (λ (v : Gathered). v.entries.items) (λ v u row result h. h) old new begun c.walk.new.visitor c.new.ensures.items profile c.walk.result (Err c.in_err-walk.field-0.0) c.walk.ensures
+    rw (p.1, p.2) (read_by_walk takes (λ (v : Gathered). v.entries.items) (λ v u row result h. h) old new begun
+    c.walk.new.visitor c.new.ensures.items profile c.walk.result (Err c.in_err-walk.field-0.0) c.walk.ensures
     (subst (λ r. Found c.walk.new.visitor.entries.items r (Err c.in_err-walk.field-0.0)) (sym c.in_err-walk.was) refl))

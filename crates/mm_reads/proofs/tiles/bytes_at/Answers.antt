@@ -19,7 +19,8 @@ returns-in_ok-bytes_of-in-Some g c =
 
 pub returns-in_err-bytes_of-in-Some : goal.returns-in_err-bytes_of-in-Some
 returns-in_err-bytes_of-in-Some g c =
-    finds_failed (finds_then c.in_ok-blob.ensures c.in_err-bytes_of-in-Some.ensures) c.from_residual-in_err-bytes_of-in-Some.ensures.1
+    finds_failed (finds_then c.in_ok-blob.ensures c.in_err-bytes_of-in-Some.ensures)
+    c.from_residual-in_err-bytes_of-in-Some.ensures.1
 
 pub returns-in-None : goal.returns-in-None
 returns-in-None g c =

@@ -12,7 +12,9 @@ returns-clause-read g c profile =
     let end = c.rollback.new.self.0 in
     let same : end ≡ c.conn-1.given.0 = search rules in
     let a = c.args in
-    let it : IsRead profile (state g.S.Store a.conn.now) (state g.S.Store end) (λ p found. TellsBytes (get p.tiles (tile_at a.table.now a.place)) found) c.bytes_at-found.result =
+    let it : IsRead profile (state g.S.Store a.conn.now) (state g.S.Store end)
+    (λ p found. TellsBytes (get p.tiles (tile_at a.table.now a.place)) found) c.bytes_at-found.result =
     reads c.transaction-tx.ensures.begun
-    (rw c.as_str.ensures.text at c.bytes_at-found.ensures) c.rollback.ensures.survives c.rollback.ensures.undone profile in
+    (rw c.as_str.ensures.text at c.bytes_at-found.ensures) c.rollback.ensures.survives c.rollback.ensures.undone
+    profile in
     rw same at it

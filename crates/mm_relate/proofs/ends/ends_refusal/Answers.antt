@@ -13,8 +13,11 @@ pub returns : goal.returns
 returns g c =
     let a = c.args in
     let r = c.ranges in
-    tells (goes_on (rw (to_z-of_z r.base_id) at c.in_ok-one.ensures) (rw (to_z-of_z r.related_id) at c.in_ok-other.ensures))
-    (λ profile p says. c.smaller.ensures ∙ (λ i. smaller (says.0 i) (says.1 i)) ∙ either_lacks (lacks_row p a.base.now a.base_id) (lacks_medium p a.base.now a.base_id) (lacks_row p a.related.now a.related_id) (lacks_medium p a.related.now a.related_id))
+    tells (goes_on (rw (to_z-of_z r.base_id) at c.in_ok-one.ensures)
+    (rw (to_z-of_z r.related_id) at c.in_ok-other.ensures))
+    (λ profile p says. c.smaller.ensures ∙ (λ i. smaller (says.0 i) (says.1 i))
+    ∙ either_lacks (lacks_row p a.base.now a.base_id) (lacks_medium p a.base.now a.base_id)
+    (lacks_row p a.related.now a.related_id) (lacks_medium p a.related.now a.related_id))
 
 pub returns-in_err-other : goal.returns-in_err-other
 returns-in_err-other g c =

@@ -11,7 +11,8 @@ use Rattle.mm_relate.proofs.maps.add_map.Goals as goal
 pub returns-in-Some : goal.returns-in-Some
 returns-in-Some g c =
     let r = c.ranges in
-    rw (← c.as_str-mapping.ensures.text) (rw c.refused.ensures (declines (rw (to_z-of_z r.base_id, to_z-of_z r.related_id) at c.in_ok-number.ensures)
+    rw (← c.as_str-mapping.ensures.text)
+    (rw c.refused.ensures (declines (rw (to_z-of_z r.base_id, to_z-of_z r.related_id) at c.in_ok-number.ensures)
     (λ profile p meets says. refused_for _ c.in-Some.number (sym says ∙ c.in-Some.is))))
 
 pub returns-in_err-number : goal.returns-in_err-number
@@ -23,14 +24,25 @@ returns g c =
     let a = c.args in
     let r = c.ranges in
     let mapping = c.as_str-mapping.result.now in
-    rw (← c.as_str-mapping.ensures.text) (applies (rw (to_z-of_z r.base_id, to_z-of_z r.related_id) at c.in_ok-number.ensures) (rw (to_z-of_z r.base_id, to_z-of_z r.related_id) at c.in_ok-insert_pairing.ensures)
-    (λ moment profile p meets says. let none = sym c.in_default.is ∙ says in (none_of (get p.pairings (pairing mapping a.base_id a.related_id)) (map_is_new p mapping a.base_id a.related_id none), accepted_for _ (sym none), refl)))
+    rw (← c.as_str-mapping.ensures.text)
+    (applies (rw (to_z-of_z r.base_id, to_z-of_z r.related_id) at c.in_ok-number.ensures)
+    (rw (to_z-of_z r.base_id, to_z-of_z r.related_id) at c.in_ok-insert_pairing.ensures)
+    (λ moment profile p meets says. let none = sym c.in_default.is
+    ∙ says in (
+      none_of (get p.pairings (pairing mapping a.base_id a.related_id))
+          (map_is_new p mapping a.base_id a.related_id none),
+      accepted_for _ (sym none),
+      refl,
+    )))
 
 pub returns-in_err-insert_pairing : goal.returns-in_err-insert_pairing
 returns-in_err-insert_pairing g c =
     let a = c.args in
     let r = c.ranges in
     let mapping = c.as_str-mapping.result.now in
-    rw (← c.as_str-mapping.ensures.text) (applies_not (rw (to_z-of_z r.base_id, to_z-of_z r.related_id) at c.in_ok-number.ensures) (rw (to_z-of_z r.base_id, to_z-of_z r.related_id) at c.in_err-insert_pairing.ensures)
-    (λ profile p meets says. none_of (get p.pairings (pairing mapping a.base_id a.related_id)) (map_is_new p mapping a.base_id a.related_id (sym c.in_default.is ∙ says)))
+    rw (← c.as_str-mapping.ensures.text)
+    (applies_not (rw (to_z-of_z r.base_id, to_z-of_z r.related_id) at c.in_ok-number.ensures)
+    (rw (to_z-of_z r.base_id, to_z-of_z r.related_id) at c.in_err-insert_pairing.ensures)
+    (λ profile p meets says. none_of (get p.pairings (pairing mapping a.base_id a.related_id))
+    (map_is_new p mapping a.base_id a.related_id (sym c.in_default.is ∙ says)))
     c.from_residual-in_err-insert_pairing.ensures.1)

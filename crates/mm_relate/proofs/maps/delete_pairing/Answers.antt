@@ -12,5 +12,6 @@ pub returns : goal.returns
 returns g c =
     let a = c.args in
     let key = pairing a.mapping.now a.base_id a.related_id in
-    deletes c.run.ensures statement.delete_pairing (Words key.mapping ∷ Int key.base_id ∷ Int key.related_id ∷ []) (search rules)
+    deletes c.run.ensures statement.delete_pairing (Words key.mapping ∷ Int key.base_id ∷ Int key.related_id ∷ [])
+    (search rules)
     (λ version db p h any. put_pairings version db p h _ _ (removes parts.pairings (db 21) p.pairings h.pairings key))

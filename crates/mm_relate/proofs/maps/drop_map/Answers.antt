@@ -7,7 +7,8 @@ use Rattle.mm_relate.proofs.maps.drop_map.Goals as goal
 pub returns-in-Some : goal.returns-in-Some
 returns-in-Some g c =
     let r = c.ranges in
-    rw (← c.as_str-mapping.ensures.text) (rw c.refused.ensures (declines (rw (to_z-of_z r.base_id, to_z-of_z r.related_id) at c.in_ok-number.ensures)
+    rw (← c.as_str-mapping.ensures.text)
+    (rw c.refused.ensures (declines (rw (to_z-of_z r.base_id, to_z-of_z r.related_id) at c.in_ok-number.ensures)
     (λ profile p meets says. refused_for _ c.in-Some.number (sym says ∙ c.in-Some.is))))
 
 pub returns-in_err-number : goal.returns-in_err-number
@@ -17,7 +18,9 @@ returns-in_err-number g c =
 pub returns : goal.returns
 returns g c =
     let r = c.ranges in
-    rw (← c.as_str-mapping.ensures.text) (applies (rw (to_z-of_z r.base_id, to_z-of_z r.related_id) at c.in_ok-number.ensures) (rw (to_z-of_z r.base_id, to_z-of_z r.related_id) at c.in_ok-delete_pairing.ensures)
+    rw (← c.as_str-mapping.ensures.text)
+    (applies (rw (to_z-of_z r.base_id, to_z-of_z r.related_id) at c.in_ok-number.ensures)
+    (rw (to_z-of_z r.base_id, to_z-of_z r.related_id) at c.in_ok-delete_pairing.ensures)
     (λ moment profile p meets says. (tt, accepted_for _ (sym says ∙ c.in_default.is), refl)))
 
 pub returns-in_err-delete_pairing : goal.returns-in_err-delete_pairing

@@ -10,5 +10,6 @@ use Rattle.mm_relate.proofs.maps.has_pairing.Goals as goal
 pub returns : goal.returns
 returns g c =
     let key = pairing c.args.mapping.now c.args.base_id c.args.related_id in
-    asks_any statement.has_pairing c.exists.ensures (Words key.mapping ∷ Int key.base_id ∷ Int key.related_id ∷ []) (search rules)
+    asks_any statement.has_pairing c.exists.ensures (Words key.mapping ∷ Int key.base_id ∷ Int key.related_id ∷ [])
+    (search rules)
     (λ version p db h. found parts.pairings (db 21) p.pairings h.pairings key)

@@ -18,16 +18,21 @@ pub returns-then-branch : goal.returns-then-branch
 returns-then-branch g c =
     let a = c.args in
     let r = c.ranges in
-    tells (goes_on c.in_ok-has_relation.ensures (rw (to_z-of_z r.base_id, to_z-of_z r.related_id) at c.in_ok-has_pairing.ensures))
-    (λ profile p says. map_drop_free p a.mapping.now a.base_id a.related_id (sym says.0 ∙ c.if-not-branch.false) (sym says.1 ∙ c.if-branch.true))
+    tells (goes_on c.in_ok-has_relation.ensures
+    (rw (to_z-of_z r.base_id, to_z-of_z r.related_id) at c.in_ok-has_pairing.ensures))
+    (λ profile p says. map_drop_free p a.mapping.now a.base_id a.related_id (sym says.0 ∙ c.if-not-branch.false)
+    (sym says.1 ∙ c.if-branch.true))
 
 pub returns-else-branch : goal.returns-else-branch
 returns-else-branch g c =
     let a = c.args in
     let r = c.ranges in
-    tells (goes_on c.in_ok-has_relation.ensures (rw (to_z-of_z r.base_id, to_z-of_z r.related_id) at c.in_ok-has_pairing.ensures))
-    (λ profile p says. map_drop_46 p a.mapping.now a.base_id a.related_id (sym says.0 ∙ c.if-not-branch.false) (sym says.1 ∙ c.if-branch.false))
+    tells (goes_on c.in_ok-has_relation.ensures
+    (rw (to_z-of_z r.base_id, to_z-of_z r.related_id) at c.in_ok-has_pairing.ensures))
+    (λ profile p says. map_drop_46 p a.mapping.now a.base_id a.related_id (sym says.0 ∙ c.if-not-branch.false)
+    (sym says.1 ∙ c.if-branch.false))
 
 pub returns-in_err-has_pairing : goal.returns-in_err-has_pairing
 returns-in_err-has_pairing g c =
-    failed (goes_on c.in_ok-has_relation.ensures c.in_err-has_pairing.ensures) c.from_residual-in_err-has_pairing.ensures.1
+    failed (goes_on c.in_ok-has_relation.ensures c.in_err-has_pairing.ensures)
+    c.from_residual-in_err-has_pairing.ensures.1

@@ -8,7 +8,8 @@ use Rattle.mm_relate.proofs.maps.map_refusal.Goals as goal
 pub returns-in_default : goal.returns-in_default
 returns-in_default g c =
     let a = c.args in
-    tells c.in_ok-base.ensures (λ profile p says. map_44 p a.mapping.now a.base_id a.related_id (says ∙ ap (option_map both_bytes) c.in_default.is))
+    tells c.in_ok-base.ensures (λ profile p says. map_44 p a.mapping.now a.base_id a.related_id
+    (says ∙ ap (option_map both_bytes) c.in_default.is))
 
 pub returns-in_err-base : goal.returns-in_err-base
 returns-in_err-base g c =
@@ -18,8 +19,11 @@ pub returns-in-Some-2 : goal.returns-in-Some-2
 returns-in-Some-2 g c =
     let a = c.args in
     let r = c.ranges in
-    tells (goes_on c.in_ok-base.ensures (rw (c.as_str.ensures.value, c.as_str-2.ensures.value, to_z-of_z r.base_id, to_z-of_z r.related_id) at c.in_ok-number.ensures))
-    (λ profile p says. map_by_ends p a.mapping.now a.base_id a.related_id _ (says.0 ∙ ap (option_map both_bytes) c.in-Some.is) c.in-Some-2.number (sym c.in-Some-2.is ∙ says.1))
+    tells (goes_on c.in_ok-base.ensures
+    (rw (c.as_str.ensures.value, c.as_str-2.ensures.value, to_z-of_z r.base_id, to_z-of_z r.related_id) at
+    c.in_ok-number.ensures))
+    (λ profile p says. map_by_ends p a.mapping.now a.base_id a.related_id _
+    (says.0 ∙ ap (option_map both_bytes) c.in-Some.is) c.in-Some-2.number (sym c.in-Some-2.is ∙ says.1))
 
 pub returns-in_err-number : goal.returns-in_err-number
 returns-in_err-number g c =
@@ -29,15 +33,23 @@ pub returns-then-branch : goal.returns-then-branch
 returns-then-branch g c =
     let a = c.args in
     let r = c.ranges in
-    tells (goes_on (goes_on c.in_ok-base.ensures (rw (c.as_str.ensures.value, c.as_str-2.ensures.value, to_z-of_z r.base_id, to_z-of_z r.related_id) at c.in_ok-number.ensures)) (rw (to_z-of_z r.base_id, to_z-of_z r.related_id) at c.in_ok-has_pairing.ensures))
-    (λ profile p says. map_45 p a.mapping.now a.base_id a.related_id _ (says.0.0 ∙ ap (option_map both_bytes) c.in-Some.is) (sym c.in_default-2.is ∙ says.0.1) (sym says.1 ∙ c.if-branch.true))
+    tells (goes_on (goes_on c.in_ok-base.ensures
+    (rw (c.as_str.ensures.value, c.as_str-2.ensures.value, to_z-of_z r.base_id, to_z-of_z r.related_id) at
+    c.in_ok-number.ensures)) (rw (to_z-of_z r.base_id, to_z-of_z r.related_id) at c.in_ok-has_pairing.ensures))
+    (λ profile p says. map_45 p a.mapping.now a.base_id a.related_id _
+    (says.0.0 ∙ ap (option_map both_bytes) c.in-Some.is) (sym c.in_default-2.is ∙ says.0.1)
+    (sym says.1 ∙ c.if-branch.true))
 
 pub returns : goal.returns
 returns g c =
     let a = c.args in
     let r = c.ranges in
-    tells (goes_on (goes_on c.in_ok-base.ensures (rw (c.as_str.ensures.value, c.as_str-2.ensures.value, to_z-of_z r.base_id, to_z-of_z r.related_id) at c.in_ok-number.ensures)) (rw (to_z-of_z r.base_id, to_z-of_z r.related_id) at c.in_ok-has_pairing.ensures))
-    (λ profile p says. map_free p a.mapping.now a.base_id a.related_id _ (says.0.0 ∙ ap (option_map both_bytes) c.in-Some.is) (sym c.in_default-2.is ∙ says.0.1) (sym says.1 ∙ c.if-branch.false))
+    tells (goes_on (goes_on c.in_ok-base.ensures
+    (rw (c.as_str.ensures.value, c.as_str-2.ensures.value, to_z-of_z r.base_id, to_z-of_z r.related_id) at
+    c.in_ok-number.ensures)) (rw (to_z-of_z r.base_id, to_z-of_z r.related_id) at c.in_ok-has_pairing.ensures))
+    (λ profile p says. map_free p a.mapping.now a.base_id a.related_id _
+    (says.0.0 ∙ ap (option_map both_bytes) c.in-Some.is) (sym c.in_default-2.is ∙ says.0.1)
+    (sym says.1 ∙ c.if-branch.false))
 
 pub returns-in_err-has_pairing : goal.returns-in_err-has_pairing
 returns-in_err-has_pairing g c =

@@ -23,10 +23,15 @@ returns-in_err-delete_relation g c =
 pub returns : goal.returns
 returns g c =
     let mapping = c.as_str-mapping.result.now in
-    rw (← c.as_str-mapping.ensures.text) (applies c.in_ok-has_relation.ensures (changes_then c.in_ok-delete_relation.ensures c.in_ok-delete_related_row.ensures (λ p any. tt))
-    (λ moment profile p meets says. (tt, accepted_for _ (relation_drop_free p mapping (sym says ∙ c.if-not-branch.false)), refl)))
+    rw (← c.as_str-mapping.ensures.text)
+    (applies c.in_ok-has_relation.ensures
+    (changes_then c.in_ok-delete_relation.ensures c.in_ok-delete_related_row.ensures (λ p any. tt))
+    (λ moment profile p meets says.
+    (tt, accepted_for _ (relation_drop_free p mapping (sym says ∙ c.if-not-branch.false)), refl)))
 
 pub returns-in_err-delete_related_row : goal.returns-in_err-delete_related_row
 returns-in_err-delete_related_row g c =
-    rw (← c.as_str-mapping.ensures.text) (applies_not c.in_ok-has_relation.ensures (changes_then c.in_ok-delete_relation.ensures c.in_err-delete_related_row.ensures (λ p any. tt))
+    rw (← c.as_str-mapping.ensures.text)
+    (applies_not c.in_ok-has_relation.ensures
+    (changes_then c.in_ok-delete_relation.ensures c.in_err-delete_related_row.ensures (λ p any. tt))
     (λ profile p meets says. tt) c.from_residual-in_err-delete_related_row.ensures.1)

@@ -17,19 +17,32 @@ returns-in_err-number g c =
 pub returns-in_err-insert_relation : goal.returns-in_err-insert_relation
 returns-in_err-insert_relation g c =
     let a = c.args in
-    applies_not c.in_ok-number.ensures (change_where (IsNew a.mapping.now) c.in_err-insert_relation.ensures (λ p new. new.0))
-    (λ profile p meets says. is_new profile p meets a.mapping.now a.base.now a.related.now a.name c.requires (sym c.in_default.is ∙ says meets))
+    applies_not c.in_ok-number.ensures
+    (change_where (IsNew a.mapping.now) c.in_err-insert_relation.ensures (λ p new. new.0))
+    (λ profile p meets says. is_new profile p meets a.mapping.now a.base.now a.related.now a.name c.requires
+    (sym c.in_default.is ∙ says meets))
     c.from_residual-in_err-insert_relation.ensures.1
 
 pub returns : goal.returns
 returns g c =
     let a = c.args in
-    applies c.in_ok-number.ensures (changes_then (change_where (IsNew a.mapping.now) (rw c.text_of_name.ensures at c.in_ok-insert_relation.ensures) (λ p new. new.0)) c.in_ok-insert_related_row.ensures (λ p new. new.1))
-    (λ moment profile p meets says. let none = sym c.in_default.is ∙ says meets in (is_new profile p meets a.mapping.now a.base.now a.related.now a.name c.requires none, accepted_for _ (sym none), refl))
+    applies c.in_ok-number.ensures (changes_then
+    (change_where (IsNew a.mapping.now) (rw c.text_of_name.ensures at c.in_ok-insert_relation.ensures) (λ p new. new.0))
+    c.in_ok-insert_related_row.ensures (λ p new. new.1))
+    (λ moment profile p meets says. let none = sym c.in_default.is
+    ∙ says meets in (
+      is_new profile p meets a.mapping.now a.base.now a.related.now a.name c.requires none,
+      accepted_for
+          _ (sym none),
+      refl,
+    ))
 
 pub returns-in_err-insert_related_row : goal.returns-in_err-insert_related_row
 returns-in_err-insert_related_row g c =
     let a = c.args in
-    applies_not c.in_ok-number.ensures (changes_then (change_where (IsNew a.mapping.now) c.in_ok-insert_relation.ensures (λ p new. new.0)) c.in_err-insert_related_row.ensures (λ p new. new.1))
-    (λ profile p meets says. is_new profile p meets a.mapping.now a.base.now a.related.now a.name c.requires (sym c.in_default.is ∙ says meets))
+    applies_not c.in_ok-number.ensures
+    (changes_then (change_where (IsNew a.mapping.now) c.in_ok-insert_relation.ensures (λ p new. new.0))
+    c.in_err-insert_related_row.ensures (λ p new. new.1))
+    (λ profile p meets says. is_new profile p meets a.mapping.now a.base.now a.related.now a.name c.requires
+    (sym c.in_default.is ∙ says meets))
     c.from_residual-in_err-insert_related_row.ensures.1

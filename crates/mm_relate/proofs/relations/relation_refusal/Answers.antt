@@ -8,7 +8,8 @@ pub returns-in_default : goal.returns-in_default
 returns-in_default g c =
     let a = c.args in
     tells c.in_ok-based.ensures
-    (λ profile p says meets. relation_25_base profile p meets a.mapping.now a.base.now a.related.now a.name (says ∙ ap (option_map kind_text) c.in_default.is))
+    (λ profile p says meets. relation_25_base profile p meets a.mapping.now a.base.now a.related.now a.name
+    (says ∙ ap (option_map kind_text) c.in_default.is))
 
 pub returns-in_err-based : goal.returns-in_err-based
 returns-in_err-based g c =
@@ -18,7 +19,9 @@ pub returns-in_default-2 : goal.returns-in_default-2
 returns-in_default-2 g c =
     let a = c.args in
     tells (goes_on c.in_ok-based.ensures c.in_ok-other.ensures)
-    (λ profile p says meets. relation_25_related profile p meets a.mapping.now a.base.now a.related.now a.name c.in-Some.based (says.0 ∙ ap (option_map kind_text) c.in-Some.is) (says.1 ∙ ap (option_map kind_text) c.in_default-2.is))
+    (λ profile p says meets. relation_25_related profile p meets a.mapping.now a.base.now a.related.now a.name
+    c.in-Some.based (says.0 ∙ ap (option_map kind_text) c.in-Some.is)
+    (says.1 ∙ ap (option_map kind_text) c.in_default-2.is))
 
 pub returns-in_err-other : goal.returns-in_err-other
 returns-in_err-other g c =
@@ -28,7 +31,9 @@ pub returns-then-branch : goal.returns-then-branch
 returns-then-branch g c =
     let a = c.args in
     tells (goes_on (goes_on c.in_ok-based.ensures c.in_ok-other.ensures) c.in_ok-is_taken.ensures)
-    (λ profile p says meets. relation_43 profile p meets a.mapping.now a.base.now a.related.now a.name c.in-Some.based (says.0.0 ∙ ap (option_map kind_text) c.in-Some.is) c.in-Some-2.other (says.0.1 ∙ ap (option_map kind_text) c.in-Some-2.is) (sym says.1 ∙ c.if-branch.true))
+    (λ profile p says meets. relation_43 profile p meets a.mapping.now a.base.now a.related.now a.name c.in-Some.based
+    (says.0.0 ∙ ap (option_map kind_text) c.in-Some.is) c.in-Some-2.other
+    (says.0.1 ∙ ap (option_map kind_text) c.in-Some-2.is) (sym says.1 ∙ c.if-branch.true))
 
 pub returns-in_err-is_taken : goal.returns-in_err-is_taken
 returns-in_err-is_taken g c =
@@ -39,10 +44,16 @@ pub returns-then-suits : goal.returns-then-suits
 returns-then-suits g c =
     let a = c.args in
     tells (goes_on (goes_on c.in_ok-based.ensures c.in_ok-other.ensures) c.in_ok-is_taken.ensures)
-    (λ profile p says meets. relation_free profile p meets a.mapping.now a.base.now a.related.now a.name c.in-Some.based (says.0.0 ∙ ap (option_map kind_text) c.in-Some.is) c.in-Some-2.other (says.0.1 ∙ ap (option_map kind_text) c.in-Some-2.is) (sym says.1 ∙ c.if-branch.false) (sym c.suits.ensures ∙ c.if-suits.true))
+    (λ profile p says meets. relation_free profile p meets a.mapping.now a.base.now a.related.now a.name c.in-Some.based
+    (says.0.0 ∙ ap (option_map kind_text) c.in-Some.is) c.in-Some-2.other
+    (says.0.1 ∙ ap (option_map kind_text) c.in-Some-2.is) (sym says.1 ∙ c.if-branch.false)
+    (sym c.suits.ensures ∙ c.if-suits.true))
 
 pub returns-else-suits : goal.returns-else-suits
 returns-else-suits g c =
     let a = c.args in
     tells (goes_on (goes_on c.in_ok-based.ensures c.in_ok-other.ensures) c.in_ok-is_taken.ensures)
-    (λ profile p says meets. relation_47 profile p meets a.mapping.now a.base.now a.related.now a.name c.in-Some.based (says.0.0 ∙ ap (option_map kind_text) c.in-Some.is) c.in-Some-2.other (says.0.1 ∙ ap (option_map kind_text) c.in-Some-2.is) (sym says.1 ∙ c.if-branch.false) (sym c.suits.ensures ∙ c.if-suits.false))
+    (λ profile p says meets. relation_47 profile p meets a.mapping.now a.base.now a.related.now a.name c.in-Some.based
+    (says.0.0 ∙ ap (option_map kind_text) c.in-Some.is) c.in-Some-2.other
+    (says.0.1 ∙ ap (option_map kind_text) c.in-Some-2.is) (sym says.1 ∙ c.if-branch.false)
+    (sym c.suits.ensures ∙ c.if-suits.false))

@@ -11,5 +11,7 @@ use Rattle.mm_rules.proofs.contents.contents_extents.Goals as goal
 
 pub returns : goal.returns
 returns g c profile =
-    checks text.contents_extents [] IsOrderedRow _ _ _ _ _ query.contents_extents query.quiet_contents_extents (λ _. ⊤) (λ p. ContentsExtents p) rule.contents_extents profile
-    (state g.S.Store c.args.conn.now) (state g.S.Store c.each_passes.new.conn) [] refl c.each_passes.result c.each_passes.ensures
+    checks text.contents_extents [] IsOrderedRow _ _ _ _ _ query.contents_extents query.quiet_contents_extents (λ _. ⊤)
+    (λ p. ContentsExtents p) rule.contents_extents profile
+    (state g.S.Store c.args.conn.now) (state g.S.Store c.each_passes.new.conn) [] refl c.each_passes.result
+    c.each_passes.ensures

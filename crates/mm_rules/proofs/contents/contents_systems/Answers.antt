@@ -11,5 +11,7 @@ use Rattle.mm_rules.proofs.contents.contents_systems.Goals as goal
 
 pub returns : goal.returns
 returns g c profile =
-    checks text.contents_systems [] MayNameRow _ _ _ _ _ query.contents_systems query.quiet_contents_systems (λ _. ⊤) (λ p. ContentsSystems p) rule.contents_systems profile
-    (state g.S.Store c.args.conn.now) (state g.S.Store c.each_passes.new.conn) [] refl c.each_passes.result c.each_passes.ensures
+    checks text.contents_systems [] MayNameRow _ _ _ _ _ query.contents_systems query.quiet_contents_systems (λ _. ⊤)
+    (λ p. ContentsSystems p) rule.contents_systems profile
+    (state g.S.Store c.args.conn.now) (state g.S.Store c.each_passes.new.conn) [] refl c.each_passes.result
+    c.each_passes.ensures

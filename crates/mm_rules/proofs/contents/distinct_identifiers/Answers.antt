@@ -11,5 +11,7 @@ use Rattle.mm_rules.proofs.contents.distinct_identifiers.Goals as goal
 
 pub returns : goal.returns
 returns g c profile =
-    checks text.distinct_identifiers [] IsSameRow _ _ _ _ _ query.distinct_identifiers query.quiet_distinct_identifiers (λ _. ⊤) (λ p. DistinctIdentifiers p.contents) rule.distinct_identifiers profile
-    (state g.S.Store c.args.conn.now) (state g.S.Store c.each_passes.new.conn) [] refl c.each_passes.result c.each_passes.ensures
+    checks text.distinct_identifiers [] IsSameRow _ _ _ _ _ query.distinct_identifiers query.quiet_distinct_identifiers
+    (λ _. ⊤) (λ p. DistinctIdentifiers p.contents) rule.distinct_identifiers profile
+    (state g.S.Store c.args.conn.now) (state g.S.Store c.each_passes.new.conn) [] refl c.each_passes.result
+    c.each_passes.ensures

@@ -11,5 +11,7 @@ use Rattle.mm_rules.proofs.contents.kinds_have_contents.Goals as goal
 
 pub returns : goal.returns
 returns g c profile =
-    checks text.kinds_have_contents [] IsThereRow _ _ _ _ _ query.kinds_have_contents query.quiet_kinds_have_contents (λ _. ⊤) (λ p. KindsHaveContents p) rule.kinds_have_contents profile
-    (state g.S.Store c.args.conn.now) (state g.S.Store c.each_passes.new.conn) [] refl c.each_passes.result c.each_passes.ensures
+    checks text.kinds_have_contents [] IsThereRow _ _ _ _ _ query.kinds_have_contents query.quiet_kinds_have_contents
+    (λ _. ⊤) (λ p. KindsHaveContents p) rule.kinds_have_contents profile
+    (state g.S.Store c.args.conn.now) (state g.S.Store c.each_passes.new.conn) [] refl c.each_passes.result
+    c.each_passes.ensures

@@ -11,5 +11,7 @@ use Rattle.mm_rules.proofs.contents.registered.Goals as goal
 
 pub returns : goal.returns
 returns g c profile =
-    checks text.registered [] IsRegisteredRow _ _ _ _ _ query.registered query.quiet_registered (λ _. ⊤) (λ p. Registered p) rule.registered profile
-    (state g.S.Store c.args.conn.now) (state g.S.Store c.each_passes.new.conn) [] refl c.each_passes.result c.each_passes.ensures
+    checks text.registered [] IsRegisteredRow _ _ _ _ _ query.registered query.quiet_registered (λ _. ⊤)
+    (λ p. Registered p) rule.registered profile
+    (state g.S.Store c.args.conn.now) (state g.S.Store c.each_passes.new.conn) [] refl c.each_passes.result
+    c.each_passes.ensures

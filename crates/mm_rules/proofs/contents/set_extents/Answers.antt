@@ -11,5 +11,7 @@ use Rattle.mm_rules.proofs.contents.set_extents.Goals as goal
 
 pub returns : goal.returns
 returns g c profile =
-    checks text.set_extents [] IsOrderedRow _ _ _ _ _ query.set_extents query.quiet_set_extents (λ _. ⊤) (λ p. SetExtents p) rule.set_extents profile
-    (state g.S.Store c.args.conn.now) (state g.S.Store c.each_passes.new.conn) [] refl c.each_passes.result c.each_passes.ensures
+    checks text.set_extents [] IsOrderedRow _ _ _ _ _ query.set_extents query.quiet_set_extents (λ _. ⊤)
+    (λ p. SetExtents p) rule.set_extents profile
+    (state g.S.Store c.args.conn.now) (state g.S.Store c.each_passes.new.conn) [] refl c.each_passes.result
+    c.each_passes.ensures

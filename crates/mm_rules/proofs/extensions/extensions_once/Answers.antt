@@ -10,12 +10,15 @@ pub returns-then-branch : goal.returns-then-branch
 returns-then-branch g c profile =
     goes_on profile (state g.S.Store c.args.conn.now) (state g.S.Store c.named_once.new.conn)
     (state g.S.Store c.unnamed_once.new.conn) (λ _. ⊤) (λ p. NamedOnce p) (λ p. UnnamedOnce p) (λ p. ExtensionsOnce p)
-    (λ p. ((all_once p).0, (all_once p).1)) c.named_once.result c.unnamed_once.result c.in_ok-named_once.was c.if-branch.true (c.named_once.ensures profile) (c.unnamed_once.ensures profile)
+    (λ p. ((all_once p).0, (all_once p).1)) c.named_once.result c.unnamed_once.result c.in_ok-named_once.was
+    c.if-branch.true (c.named_once.ensures profile) (c.unnamed_once.ensures profile)
 
 pub returns-else-branch : goal.returns-else-branch
 returns-else-branch g c profile =
-    stops profile (state g.S.Store c.args.conn.now) (state g.S.Store c.named_once.new.conn) (λ _. ⊤) (λ p. NamedOnce p) (λ p. UnnamedOnce p) (λ p. ExtensionsOnce p)
-    (λ p. ((all_once p).0, (all_once p).1)) c.named_once.result c.in_ok-named_once.was c.if-branch.false (c.named_once.ensures profile)
+    stops profile (state g.S.Store c.args.conn.now) (state g.S.Store c.named_once.new.conn) (λ _. ⊤) (λ p. NamedOnce p)
+    (λ p. UnnamedOnce p) (λ p. ExtensionsOnce p)
+    (λ p. ((all_once p).0, (all_once p).1)) c.named_once.result c.in_ok-named_once.was c.if-branch.false
+    (c.named_once.ensures profile)
 
 pub returns-in_err-named_once : goal.returns-in_err-named_once
 returns-in_err-named_once g c profile =

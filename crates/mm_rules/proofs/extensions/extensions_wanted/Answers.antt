@@ -11,5 +11,7 @@ use Rattle.mm_rules.proofs.extensions.extensions_wanted.Goals as goal
 
 pub returns : goal.returns
 returns g c profile =
-    checks text.extensions_wanted [] IsWantedRow _ _ _ _ _ query.extensions_wanted query.quiet_extensions_wanted (λ _. ⊤) (λ p. ExtensionsWanted p) rule.extensions_wanted profile
-    (state g.S.Store c.args.conn.now) (state g.S.Store c.each_passes.new.conn) [] refl c.each_passes.result c.each_passes.ensures
+    checks text.extensions_wanted [] IsWantedRow _ _ _ _ _ query.extensions_wanted query.quiet_extensions_wanted
+    (λ _. ⊤) (λ p. ExtensionsWanted p) rule.extensions_wanted profile
+    (state g.S.Store c.args.conn.now) (state g.S.Store c.each_passes.new.conn) [] refl c.each_passes.result
+    c.each_passes.ensures

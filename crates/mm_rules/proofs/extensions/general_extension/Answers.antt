@@ -11,5 +11,7 @@ use Rattle.mm_rules.proofs.extensions.general_extension.Goals as goal
 
 pub returns : goal.returns
 returns g c profile =
-    checks text.ask_general_extension [] IsStandingRow _ _ _ _ _ query.general_extension query.quiet_general_extension (λ _. ⊤) (λ p. GeneralExtension p) rule.general_extension profile
-    (state g.S.Store c.args.conn.now) (state g.S.Store c.each_passes.new.conn) [] refl c.each_passes.result c.each_passes.ensures
+    checks text.ask_general_extension [] IsStandingRow _ _ _ _ _ query.general_extension query.quiet_general_extension
+    (λ _. ⊤) (λ p. GeneralExtension p) rule.general_extension profile
+    (state g.S.Store c.args.conn.now) (state g.S.Store c.each_passes.new.conn) [] refl c.each_passes.result
+    c.each_passes.ensures

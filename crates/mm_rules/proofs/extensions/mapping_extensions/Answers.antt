@@ -11,5 +11,7 @@ use Rattle.mm_rules.proofs.extensions.mapping_extensions.Goals as goal
 
 pub returns : goal.returns
 returns g c profile =
-    checks text.mapping_extensions [] IsStandingRow _ _ _ _ _ query.mapping_extensions query.quiet_mapping_extensions (λ _. ⊤) (λ p. MappingExtensions p) rule.mapping_extensions profile
-    (state g.S.Store c.args.conn.now) (state g.S.Store c.each_passes.new.conn) [] refl c.each_passes.result c.each_passes.ensures
+    checks text.mapping_extensions [] IsStandingRow _ _ _ _ _ query.mapping_extensions query.quiet_mapping_extensions
+    (λ _. ⊤) (λ p. MappingExtensions p) rule.mapping_extensions profile
+    (state g.S.Store c.args.conn.now) (state g.S.Store c.each_passes.new.conn) [] refl c.each_passes.result
+    c.each_passes.ensures

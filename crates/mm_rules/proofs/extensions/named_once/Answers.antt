@@ -11,5 +11,7 @@ use Rattle.mm_rules.proofs.extensions.named_once.Goals as goal
 
 pub returns : goal.returns
 returns g c profile =
-    checks text.named_once [] NoRow _ _ _ _ _ query.named_once query.quiet_named_once (λ _. ⊤) (λ p. NamedOnce p) rule.named_once profile
-    (state g.S.Store c.args.conn.now) (state g.S.Store c.each_passes.new.conn) [] refl c.each_passes.result c.each_passes.ensures
+    checks text.named_once [] NoRow _ _ _ _ _ query.named_once query.quiet_named_once (λ _. ⊤) (λ p. NamedOnce p)
+    rule.named_once profile
+    (state g.S.Store c.args.conn.now) (state g.S.Store c.each_passes.new.conn) [] refl c.each_passes.result
+    c.each_passes.ensures

@@ -11,5 +11,7 @@ use Rattle.mm_rules.proofs.extensions.zoom_extensions.Goals as goal
 
 pub returns : goal.returns
 returns g c profile =
-    checks text.zoom_extensions [] IsMarkedRow _ _ _ _ _ query.zoom_extensions query.quiet_zoom_extensions (λ _. ⊤) (λ p. ZoomExtensions p) rule.zoom_extensions profile
-    (state g.S.Store c.args.conn.now) (state g.S.Store c.each_passes.new.conn) [] refl c.each_passes.result c.each_passes.ensures
+    checks text.zoom_extensions [] IsMarkedRow _ _ _ _ _ query.zoom_extensions query.quiet_zoom_extensions (λ _. ⊤)
+    (λ p. ZoomExtensions p) rule.zoom_extensions profile
+    (state g.S.Store c.args.conn.now) (state g.S.Store c.each_passes.new.conn) [] refl c.each_passes.result
+    c.each_passes.ensures

@@ -11,5 +11,7 @@ use Rattle.mm_rules.proofs.items.media_in_tables.Goals as goal
 
 pub returns : goal.returns
 returns g c profile =
-    checks text.media_in_tables [] IsMediaRow _ _ _ _ _ query.media_in_tables query.quiet_media_in_tables (λ _. ⊤) (λ p. MediaInTables p) rule.media_in_tables profile
-    (state g.S.Store c.args.conn.now) (state g.S.Store c.each_passes.new.conn) [] refl c.each_passes.result c.each_passes.ensures
+    checks text.media_in_tables [] IsMediaRow _ _ _ _ _ query.media_in_tables query.quiet_media_in_tables (λ _. ⊤)
+    (λ p. MediaInTables p) rule.media_in_tables profile
+    (state g.S.Store c.args.conn.now) (state g.S.Store c.each_passes.new.conn) [] refl c.each_passes.result
+    c.each_passes.ensures

@@ -11,5 +11,7 @@ use Rattle.mm_rules.proofs.items.pairings_join.Goals as goal
 
 pub returns : goal.returns
 returns g c profile =
-    checks text.pairings_join [] IsJoinedRow _ _ _ _ _ query.pairings_join query.quiet_pairings_join (λ _. ⊤) (λ p. PairingsJoin p.rows p.media p.relations p.pairings) rule.pairings_join profile
-    (state g.S.Store c.args.conn.now) (state g.S.Store c.each_passes.new.conn) [] refl c.each_passes.result c.each_passes.ensures
+    checks text.pairings_join [] IsJoinedRow _ _ _ _ _ query.pairings_join query.quiet_pairings_join (λ _. ⊤)
+    (λ p. PairingsJoin p.rows p.media p.relations p.pairings) rule.pairings_join profile
+    (state g.S.Store c.args.conn.now) (state g.S.Store c.each_passes.new.conn) [] refl c.each_passes.result
+    c.each_passes.ensures

@@ -11,5 +11,7 @@ use Rattle.mm_rules.proofs.matrices.higher_is_finer.Goals as goal
 
 pub returns : goal.returns
 returns g c profile =
-    checks text.higher_is_finer [] IsFinerRow _ _ _ _ _ query.higher_is_finer query.quiet_higher_is_finer (λ _. ⊤) (λ p. HigherIsFiner p.matrices) rule.higher_is_finer profile
-    (state g.S.Store c.args.conn.now) (state g.S.Store c.each_passes.new.conn) [] refl c.each_passes.result c.each_passes.ensures
+    checks text.higher_is_finer [] IsFinerRow _ _ _ _ _ query.higher_is_finer query.quiet_higher_is_finer (λ _. ⊤)
+    (λ p. HigherIsFiner p.matrices) rule.higher_is_finer profile
+    (state g.S.Store c.args.conn.now) (state g.S.Store c.each_passes.new.conn) [] refl c.each_passes.result
+    c.each_passes.ensures

@@ -11,5 +11,7 @@ use Rattle.mm_rules.proofs.matrices.matrices_fit.Goals as goal
 
 pub returns : goal.returns
 returns g c profile =
-    checks text.matrices_fit [] IsFittingRow _ _ _ _ _ query.matrices_fit query.quiet_matrices_fit (λ _. ⊤) (λ p. MatricesFit p.kinds p.sets p.matrices) rule.matrices_fit profile
-    (state g.S.Store c.args.conn.now) (state g.S.Store c.each_passes.new.conn) [] refl c.each_passes.result c.each_passes.ensures
+    checks text.matrices_fit [] IsFittingRow _ _ _ _ _ query.matrices_fit query.quiet_matrices_fit (λ _. ⊤)
+    (λ p. MatricesFit p.kinds p.sets p.matrices) rule.matrices_fit profile
+    (state g.S.Store c.args.conn.now) (state g.S.Store c.each_passes.new.conn) [] refl c.each_passes.result
+    c.each_passes.ensures

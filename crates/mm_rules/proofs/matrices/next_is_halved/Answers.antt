@@ -11,5 +11,7 @@ use Rattle.mm_rules.proofs.matrices.next_is_halved.Goals as goal
 
 pub returns : goal.returns
 returns g c profile =
-    checks text.next_is_halved [] IsHalvedRow _ _ _ _ _ query.next_is_halved query.quiet_next_is_halved (λ _. ⊤) (λ p. NextIsHalved p.kinds p.matrices) rule.next_is_halved profile
-    (state g.S.Store c.args.conn.now) (state g.S.Store c.each_passes.new.conn) [] refl c.each_passes.result c.each_passes.ensures
+    checks text.next_is_halved [] IsHalvedRow _ _ _ _ _ query.next_is_halved query.quiet_next_is_halved (λ _. ⊤)
+    (λ p. NextIsHalved p.kinds p.matrices) rule.next_is_halved profile
+    (state g.S.Store c.args.conn.now) (state g.S.Store c.each_passes.new.conn) [] refl c.each_passes.result
+    c.each_passes.ensures

@@ -15,4 +15,5 @@ pub returns : goal.returns
 returns g c profile =
     checks text.ask_given_systems (Int (pos 4326) ∷ Int (negsuc 0) ∷ Int (pos 0) ∷ []) IsGivenRow _ _ _ _ _
     query.given_systems query.quiet_given_systems (λ _. ⊤) (λ p. GivenSystems p.systems) rule.given_systems profile
-    (state g.S.Store c.args.conn.now) (state g.S.Store c.each_passes.new.conn) _ (search rules) c.each_passes.result c.each_passes.ensures
+    (state g.S.Store c.args.conn.now) (state g.S.Store c.each_passes.new.conn) _ (search rules) c.each_passes.result
+    c.each_passes.ensures

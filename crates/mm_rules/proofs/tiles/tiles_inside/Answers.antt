@@ -11,5 +11,7 @@ use Rattle.mm_rules.proofs.tiles.tiles_inside.Goals as goal
 
 pub returns : goal.returns
 returns g c profile =
-    checks text.tiles_inside [] IsInsideRow _ _ _ _ _ query.tiles_inside query.quiet_tiles_inside (λ _. ⊤) (λ p. TilesInside p.matrices p.tiles) rule.tiles_inside profile
-    (state g.S.Store c.args.conn.now) (state g.S.Store c.each_passes.new.conn) [] refl c.each_passes.result c.each_passes.ensures
+    checks text.tiles_inside [] IsInsideRow _ _ _ _ _ query.tiles_inside query.quiet_tiles_inside (λ _. ⊤)
+    (λ p. TilesInside p.matrices p.tiles) rule.tiles_inside profile
+    (state g.S.Store c.args.conn.now) (state g.S.Store c.each_passes.new.conn) [] refl c.each_passes.result
+    c.each_passes.ensures

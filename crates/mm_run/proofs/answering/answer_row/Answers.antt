@@ -12,9 +12,11 @@ returns-in-Ok-clause-answered g c clean p sound fields reads =
     let here = c.args.session.now in
     let before = g.A.Apply.has_failed here in
     let failed = g.A.Apply.has_failed c.apply.new.self in
-    answered_command fields p c.args.at before (shown_since g.A.Apply here p c.apply.new.self) c.in-Ok.command c.apply.result read
+    answered_command fields p c.args.at before (shown_since g.A.Apply here p c.apply.new.self) c.in-Ok.command
+    c.apply.result read
     c.milliseconds-milliseconds.ensures.within sound.1
-    (fault-fails before failed c.apply.result (λ was. ap g.A.Apply.has_failed (c.apply.ensures.ended was).1 ∙ was) c.apply.ensures.fails)
+    (fault-fails before failed c.apply.result (λ was. ap g.A.Apply.has_failed (c.apply.ensures.ended was).1 ∙ was)
+    c.apply.ensures.fails)
     (c.apply.ensures.applied clean p sound.0 sound.1)
 
 pub returns-in-Err-clause-answered : goal.returns-in-Err-clause-answered
@@ -24,10 +26,14 @@ returns-in-Err-clause-answered g c clean p sound fields reads =
     (rw c.in-Err.is at reads) refl (begins g.A.Apply here p sound))
 
 pub returns-in-Err-clause-faults : goal.returns-in-Err-clause-faults
-returns-in-Err-clause-faults g c = rw c.unread_answer.ensures (unread-tells c.in-Err.fault (g.A.Apply.has_failed c.args.session.now) (c.args.session.now ≡ c.args.session.now) refl).0
+returns-in-Err-clause-faults g c = rw c.unread_answer.ensures
+    (unread-tells c.in-Err.fault (g.A.Apply.has_failed c.args.session.now) (c.args.session.now ≡ c.args.session.now)
+    refl).0
 
 pub returns-in-Err-clause-session : goal.returns-in-Err-clause-session
-returns-in-Err-clause-session g c = rw c.unread_answer.ensures (unread-tells c.in-Err.fault (g.A.Apply.has_failed c.args.session.now) (c.args.session.now ≡ c.args.session.now) refl).1
+returns-in-Err-clause-session g c = rw c.unread_answer.ensures
+    (unread-tells c.in-Err.fault (g.A.Apply.has_failed c.args.session.now) (c.args.session.now ≡ c.args.session.now)
+    refl).1
 
 pub returns-in-Ok-clause-kept : goal.returns-in-Ok-clause-kept
 returns-in-Ok-clause-kept g c fields reads clean p sound =
@@ -37,11 +43,13 @@ returns-in-Ok-clause-kept g c fields reads clean p sound =
     let failed = g.A.Apply.has_failed new in
     let tells = applied-tells before failed (new ≡ here) c.apply.result c.apply.ensures.faults c.apply.ensures.ended
     c.apply.ensures.working c.apply.ensures.fails in
-    kept-answered (shown_since g.A.Apply here p new) (λ q settled. settled.1) fields p c.args.at before c.apply.result (new ≡ here) sound.1
+    kept-answered (shown_since g.A.Apply here p new) (λ q settled. settled.1) fields p c.args.at before c.apply.result
+    (new ≡ here) sound.1
     (λ same. subst (λ s. (shown_since g.A.Apply here p s).settled p) (sym same) (begins g.A.Apply here p sound).0) tells
     (returns-in-Ok-clause-answered g c clean p sound fields reads)
 
 pub returns-in-Err-clause-kept : goal.returns-in-Err-clause-kept
 returns-in-Err-clause-kept g c fields reads clean p sound =
     let here = c.args.session.now in
-    kept-sound (shown_since g.A.Apply here p here) (λ q settled. settled.1) (g.A.Apply.has_failed here) p (begins g.A.Apply here p sound)
+    kept-sound (shown_since g.A.Apply here p here) (λ q settled. settled.1) (g.A.Apply.has_failed here) p
+    (begins g.A.Apply here p sound)

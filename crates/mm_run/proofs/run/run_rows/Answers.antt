@@ -1,4 +1,5 @@
-use Rattle.std.proofs.Common.{◌≡◌, ◌+◌, ◌-◌, ◌^◌, ◌∙◌, [], ◌∷◌, ◌++◌, false, inl, refl, ap, arith, length, sym, true, None, Some}
+use Rattle.std.proofs.Common.{◌≡◌, ◌+◌, ◌-◌, ◌^◌, ◌∙◌, [], ◌∷◌, ◌++◌, false, inl, refl, ap, arith, length, sym, true}
+use Rattle.std.proofs.Common.{None, Some}
 use Rattle.csv.specs.Reading.{source_of}
 use Rattle.mm_definitions.specs.declared.answers.Answer.TheVariants as answers
 use Rattle.mm_definitions.specs.declared.answers.Fault.{Fault}
@@ -31,7 +32,8 @@ loop-n-init g c = record {
         (begins g.A.Apply c.args.session.now p sound),
   );
   kept = λ clean p sound.
-      kept-sound (shown_since g.A.Apply c.args.session.now p c.args.session.now) (λ q settled. settled.1) (g.A.Apply.has_failed c.args.session.now) p
+      kept-sound (shown_since g.A.Apply c.args.session.now p c.args.session.now) (λ q settled. settled.1)
+      (g.A.Apply.has_failed c.args.session.now) p
       (begins g.A.Apply c.args.session.now p sound);
   refused = λ was xs here. ended-none xs _ _ _ _ here (told-none _ _ refl refl refl);
 }
@@ -51,10 +53,13 @@ returns-in-None g c =
         given,
         told,
         λ clean p sound xs here.
-            all-answered g.T.Read.remaining c.loop-n.rows c.turn.new.rows p c.args.at xs c.args.rows.now.state (shown_since A old p mid).settled
+            all-answered g.T.Read.remaining c.loop-n.rows c.turn.new.rows p c.args.at xs c.args.rows.now.state
+            (shown_since A old p mid).settled
             (shown_since A old p new)
-            (A.has_failed old) (A.has_failed mid) given inv.set_up.config (so_far (c.turn.ensures.clean clean) p sound xs here)
-            (turns_since A g.T.Read.remaining c.loop-n.rows c.turn.new.rows old p mid new c.args.at (A.has_failed mid) None
+            (A.has_failed old) (A.has_failed mid) given inv.set_up.config
+            (so_far (c.turn.ensures.clean clean) p sound xs here)
+            (turns_since A g.T.Read.remaining c.loop-n.rows c.turn.new.rows old p mid new c.args.at (A.has_failed mid)
+            None
             (λ q sound. rw c.in-None.is at (c.turn.ensures.turns clean q sound))),
       );
       working = inv.working;
@@ -67,7 +72,8 @@ returns-in-None g c =
       reader = λ first. (rw c.in-None.is at c.turn.ensures.reader) (inv.reading first);
       kept = kept_since A old mid new c.turn.ensures.clean inv.same inv.kept c.turn.ensures.kept;
       ended = λ was xs here.
-          ended-all g.T.Read.remaining c.loop-n.rows c.turn.new.rows xs c.args.rows.now.state c.loop-n.tally _ _ inv.set_up.config (inv.refused was xs here)
+          ended-all g.T.Read.remaining c.loop-n.rows c.turn.new.rows xs c.args.rows.now.state c.loop-n.tally _
+          _ inv.set_up.config (inv.refused was xs here)
           (rw c.in-None.is at (c.turn.ensures.ended (inv.same ∙ was)));
     }
 
@@ -80,8 +86,10 @@ loop-n-preserved g c =
     let new = c.turn.new.session in
     let (given, told, so_far) = inv.given in
     let goes = c.in-Ok.ensures.goes in
-    let once : c.in-Ok.next.accepted + c.in-Ok.next.refused ≡ c.loop-n.tally.accepted + c.loop-n.tally.refused + 1 = counted-once c.in-Some.answer c.loop-n.tally c.in-Ok.next goes.0 goes.1 in
-    let line : c.in-Ok.next.written ≡ c.loop-n.tally.written + 1 = written-once c.in-Some.answer c.loop-n.tally c.in-Ok.next goes.1 in
+    let once : c.in-Ok.next.accepted + c.in-Ok.next.refused ≡ c.loop-n.tally.accepted + c.loop-n.tally.refused + 1 =
+    counted-once c.in-Some.answer c.loop-n.tally c.in-Ok.next goes.0 goes.1 in
+    let line : c.in-Ok.next.written ≡ c.loop-n.tally.written + 1 = written-once c.in-Some.answer c.loop-n.tally
+    c.in-Ok.next goes.1 in
     let at : length given + 1 ≡ c.loop-n.n = omega (arith, told.1) in
     record {
       set_up = c.in-Some.ensures.stays goes.0;
@@ -93,23 +101,30 @@ loop-n-preserved g c =
       same = goes-same c.in-Some.answer _ _ _ goes.0 c.in-Some.ensures.going ∙ inv.same;
       ended = λ was.
           let before = inv.ended was in
-          let on = goes-ended c.in-Some.answer _ _ _ c.loop-n.tally c.in-Ok.next goes.0 c.in-Some.ensures.going (inv.same ∙ was) goes.1 in
+          let on = goes-ended c.in-Some.answer _ _ _ c.loop-n.tally c.in-Ok.next goes.0 c.in-Some.ensures.going
+          (inv.same ∙ was) goes.1 in
           (on.0 ∙ before.0, on.1 ∙ before.1);
-      reading = λ first. tells_on _ _ c.in-Some.answer goes.0 (rw c.in-Some.is at c.turn.ensures.reader) (inv.reading first);
+      reading = λ first. tells_on _ _ c.in-Some.answer goes.0 (rw c.in-Some.is at c.turn.ensures.reader)
+          (inv.reading first);
       given = (
         given ++ c.in-Some.answer ∷ [],
         told-more given c.in-Some.answer c.loop-n.tally c.in-Ok.next c.loop-n.n _ _ _ _ _ told goes at,
         λ clean p sound xs here.
-            so_far-more g.T.Read.remaining c.loop-n.rows c.turn.new.rows p c.args.at xs c.args.rows.now.state (shown_since A old p mid).settled
+            so_far-more g.T.Read.remaining c.loop-n.rows c.turn.new.rows p c.args.at xs c.args.rows.now.state
+            (shown_since A old p mid).settled
             (shown_since A old p new)
-            (A.has_failed old) (A.has_failed mid) given inv.set_up.config (so_far (c.turn.ensures.clean clean) p sound xs here) c.in-Some.answer
-            (turns_since A g.T.Read.remaining c.loop-n.rows c.turn.new.rows old p mid new c.args.at (A.has_failed mid) (Some c.in-Some.answer)
+            (A.has_failed old) (A.has_failed mid) given inv.set_up.config
+            (so_far (c.turn.ensures.clean clean) p sound xs here) c.in-Some.answer
+            (turns_since A g.T.Read.remaining c.loop-n.rows c.turn.new.rows old p mid new c.args.at (A.has_failed mid)
+            (Some c.in-Some.answer)
             (λ q sound. rw c.in-Some.is at (c.turn.ensures.turns clean q sound))) goes.0,
       );
       kept = kept_since A old mid new c.turn.ensures.clean inv.same inv.kept c.turn.ensures.kept;
       refused = λ was xs here.
-          ended-more g.T.Read.remaining c.loop-n.rows c.turn.new.rows xs c.args.rows.now.state c.loop-n.tally _ _ inv.set_up.config (inv.refused was xs here)
-          c.in-Some.answer c.in-Ok.next c.loop-n.n _ _ _ (rw c.in-Some.is at (c.turn.ensures.ended (inv.same ∙ was))) goes inv.numbered;
+          ended-more g.T.Read.remaining c.loop-n.rows c.turn.new.rows xs c.args.rows.now.state c.loop-n.tally _
+          _ inv.set_up.config (inv.refused was xs here)
+          c.in-Some.answer c.in-Ok.next c.loop-n.n _ _ _ (rw c.in-Some.is at (c.turn.ensures.ended (inv.same ∙ was)))
+          goes inv.numbered;
     }
 
 pub returns-in-Err : goal.returns-in-Err
@@ -132,34 +147,44 @@ returns-in-Err g c =
           stopped-with
           (λ told w. OnRun (A.is_clean new) (A.seen old) (source_of g.T.Read.remaining c.args.rows.now)
           (λ p xs. IsSome p c.args.at xs c.args.rows.now.state first (shown_since A old p new) told w))
-          given c.loop-n.n c.loop-n.tally c.in-Err.e _ _ _ _ _ _ at (omega arith) told inv.working c.in-Some.answer (run-line c.in-Some.answer _ c.in-Some.ensures.faults) c.in-Err.ensures.stops
+          given c.loop-n.n c.loop-n.tally c.in-Err.e _ _ _ _ _ _ at (omega arith) told inv.working c.in-Some.answer
+          (run-line c.in-Some.answer _ c.in-Some.ensures.faults) c.in-Err.ensures.stops
           (λ faulted w enough clean p sound xs here.
-          some-faulted g.T.Read.remaining c.loop-n.rows c.turn.new.rows p c.args.at xs c.args.rows.now.state (shown_since A old p mid).settled
+          some-faulted g.T.Read.remaining c.loop-n.rows c.turn.new.rows p c.args.at xs c.args.rows.now.state
+          (shown_since A old p mid).settled
           (shown_since A old p new)
           first before given inv.set_up.config (so_far (c.turn.ensures.clean clean) p sound xs here)
           (λ q settled. settled.1) inv.same c.in-Some.answer faulted
-          (turns_since A g.T.Read.remaining c.loop-n.rows c.turn.new.rows old p mid new c.args.at (A.has_failed mid) (Some c.in-Some.answer)
+          (turns_since A g.T.Read.remaining c.loop-n.rows c.turn.new.rows old p mid new c.args.at (A.has_failed mid)
+          (Some c.in-Some.answer)
           (λ q sound. rw c.in-Some.is at (c.turn.ensures.turns clean q sound))) w enough)
           (λ good w enough clean p sound xs here.
           some-last p c.args.at (shown_since A old p new) xs c.args.rows.now.state first given c.in-Some.answer
           (λ q settled. settled.1) (goes-same c.in-Some.answer _ _ _ good c.in-Some.ensures.going ∙ inv.same) _ _
-          (so_far-more g.T.Read.remaining c.loop-n.rows c.turn.new.rows p c.args.at xs c.args.rows.now.state (shown_since A old p mid).settled
+          (so_far-more g.T.Read.remaining c.loop-n.rows c.turn.new.rows p c.args.at xs c.args.rows.now.state
+          (shown_since A old p mid).settled
           (shown_since A old p new)
           first before given inv.set_up.config (so_far (c.turn.ensures.clean clean) p sound xs here) c.in-Some.answer
-          (turns_since A g.T.Read.remaining c.loop-n.rows c.turn.new.rows old p mid new c.args.at (A.has_failed mid) (Some c.in-Some.answer)
+          (turns_since A g.T.Read.remaining c.loop-n.rows c.turn.new.rows old p mid new c.args.at (A.has_failed mid)
+          (Some c.in-Some.answer)
           (λ q sound. rw c.in-Some.is at (c.turn.ensures.turns clean q sound))) good) w enough);
       small = tt;
       near = c.in-Err.ensures.near;
       session =
           stops-failing old mid new first before (A.has_failed new)
-          c.loop-n.tally c.in-Err.e _ _ _ _ _ inv.same inv.ended c.in-Some.answer c.in-Some.ensures.going c.in-Err.ensures.stops;
-      why = stops-why c.in-Some.answer c.loop-n.tally c.in-Err.e _ _ _ _ _ _ c.in-Some.ensures.faults c.in-Err.ensures.stops;
+          c.loop-n.tally c.in-Err.e _ _ _ _ _ inv.same inv.ended c.in-Some.answer c.in-Some.ensures.going
+          c.in-Err.ensures.stops;
+      why = stops-why c.in-Some.answer c.loop-n.tally c.in-Err.e _ _ _ _ _ _ c.in-Some.ensures.faults
+          c.in-Err.ensures.stops;
       reader = λ first down.
-          stops-reader c.in-Some.answer c.loop-n.tally c.in-Err.e _ _ _ _ _ _ _ (rw c.in-Some.is at c.turn.ensures.reader) c.in-Err.ensures.stops (inv.reading first) down;
+          stops-reader c.in-Some.answer c.loop-n.tally c.in-Err.e _ _ _ _ _ _ _
+          (rw c.in-Some.is at c.turn.ensures.reader) c.in-Err.ensures.stops (inv.reading first) down;
       kept = kept_since A old mid new c.turn.ensures.clean inv.same inv.kept c.turn.ensures.kept;
       ended = λ was xs here.
-          ended-stopped g.T.Read.remaining c.loop-n.rows c.turn.new.rows xs c.args.rows.now.state c.loop-n.tally _ _ inv.set_up.config (inv.refused was xs here)
-          c.in-Err.e c.loop-n.n _ _ _ _ inv.working c.in-Some.answer (run-line c.in-Some.answer _ c.in-Some.ensures.faults)
+          ended-stopped g.T.Read.remaining c.loop-n.rows c.turn.new.rows xs c.args.rows.now.state c.loop-n.tally _
+          _ inv.set_up.config (inv.refused was xs here)
+          c.in-Err.e c.loop-n.n _ _ _ _ inv.working c.in-Some.answer
+          (run-line c.in-Some.answer _ c.in-Some.ensures.faults)
           (rw c.in-Some.is at (c.turn.ensures.ended (inv.same ∙ was))) c.in-Err.ensures.stops inv.numbered;
     }
 
@@ -184,20 +209,24 @@ returns g c =
           stopped-fault
           (λ told w. OnRun (A.is_clean new) (A.seen old) (source_of g.T.Read.remaining c.args.rows.now)
           (λ p xs. IsSome p c.args.at xs c.args.rows.now.state first (shown_since A old p new) told w))
-          given (2 ^ 64 - 1) c.loop-n.tally c.tell_endless.result _ _ _ _ _ _ at (omega arith) told inv.working memory (inl (inl refl)) c.tell_endless.ensures.stops
+          given (2 ^ 64 - 1) c.loop-n.tally c.tell_endless.result _ _ _ _ _ _ at (omega arith) told inv.working memory
+          (inl (inl refl)) c.tell_endless.ensures.stops
           (λ w enough clean p sound xs here.
           some-so_far p c.args.at (shown_since A old p new) xs c.args.rows.now.state first given
           (λ q settled. settled.1) inv.same _ _ (so_far clean p sound xs here) w enough);
       small = tt;
       near = c.tell_endless.ensures.near;
       session =
-          stops-failing old new new first before before c.loop-n.tally c.tell_endless.result _ _ _ _ _ inv.same inv.ended (answers.Fault memory)
+          stops-failing old new new first before before c.loop-n.tally c.tell_endless.result _ _ _ _
+          _ inv.same inv.ended (answers.Fault memory)
           (λ e. absurd (omega arith), λ e. absurd (omega arith), λ e. refl, λ e. refl) c.tell_endless.ensures.stops;
       reader = λ first down. absurd (let g : false ≡ true = sym (inv.reading first) ∙ down in cc);
-      why = stops-why (answers.Fault memory) c.loop-n.tally c.tell_endless.result _ _ _ _ _ _ (inl (inl refl)) c.tell_endless.ensures.stops;
+      why = stops-why (answers.Fault memory) c.loop-n.tally c.tell_endless.result _ _ _ _ _ _ (inl (inl refl))
+          c.tell_endless.ensures.stops;
       kept = inv.kept;
       ended = λ was xs here.
           let h = inv.refused was xs here in
-          ended-behind xs c.args.rows.now.state c.loop-n.tally c.tell_endless.result (2 ^ 64 - 1) _ _ _ _ _ _ inv.working h.numbers h.rows c.loop-n.rows.state h.rest h.reached h.read h.told
+          ended-behind xs c.args.rows.now.state c.loop-n.tally c.tell_endless.result (2 ^ 64 - 1) _ _ _ _ _
+          _ inv.working h.numbers h.rows c.loop-n.rows.state h.rest h.reached h.read h.told
           (inv.numbered ∙ end) memory (λ e. absurd (omega arith)) (inl (inl refl)) c.tell_endless.ensures.stops;
     }

@@ -20,12 +20,14 @@ invariant-loop-n g l = record {
   same : g.A.Apply.has_failed l.session ≡ g.A.Apply.has_failed l.fn.session;
   ended : g.A.Apply.has_failed l.fn.session ≡ true → (l.session ≡ l.fn.session) × (l.tally.accepted ≡ 0);
   reading : WorksStill (g.T.Tells.has_failed (reader_source l.fn.rows)) (g.T.Tells.has_failed (reader_source l.rows));
-  given : (given : List Answer) × AreTold given l.tally (g.W.Write.contents (inside l.fn.writer)) (g.W.Write.contents (inside l.writer))
+  given : (given : List Answer) × AreTold given l.tally (g.W.Write.contents (inside l.fn.writer))
+      (g.W.Write.contents (inside l.writer))
       × OnRun (g.A.Apply.is_clean l.session) (g.A.Apply.seen l.fn.session) (source_of g.T.Read.remaining l.fn.rows)
       (λ p xs. IsSoFar p l.at xs l.fn.rows.state (source_of g.T.Read.remaining l.rows) l.rows.state
       (shown_since g.A.Apply l.fn.session p l.session).settled given);
   kept : OnSound (g.A.Apply.is_clean l.session) (g.A.Apply.seen l.fn.session)
       (λ p. IsKept (g.A.Apply.has_failed l.fn.session) (shown_since g.A.Apply l.fn.session p l.session));
   refused : OnEnded (g.A.Apply.has_failed l.fn.session) (source_of g.T.Read.remaining l.fn.rows)
-      (λ xs. AreRefusedSoFar xs l.fn.rows.state (source_of g.T.Read.remaining l.rows) l.rows.state l.tally (g.W.Write.contents (inside l.fn.writer)) (g.W.Write.contents (inside l.writer)));
+      (λ xs. AreRefusedSoFar xs l.fn.rows.state (source_of g.T.Read.remaining l.rows) l.rows.state l.tally
+      (g.W.Write.contents (inside l.fn.writer)) (g.W.Write.contents (inside l.writer)));
 }

@@ -8,5 +8,14 @@ pub returns : goal.returns
 returns c p table id row meets is =
     let within = meets.q16.rows (item table id) row is in
     let id_spelled = spells id (omega (arith, ints, within.id.0)) (omega (arith, ints, within.id.1)) in
-    let amount_spelled = spells row.amount (omega (arith, ints, within.amount.0)) (omega (arith, ints, within.amount.1)) in
-    (refl, ((refl, within.table), ((id_spelled, within.id), ((refl, within.title), ((refl, within.note), ((amount_spelled, within.amount), tt))))))
+    let amount_spelled = spells row.amount (omega (arith, ints, within.amount.0))
+    (omega (arith, ints, within.amount.1)) in (
+      refl,
+      (
+        (refl, within.table),
+        (
+          (id_spelled, within.id),
+          ((refl, within.title), ((refl, within.note), ((amount_spelled, within.amount), tt))),
+        ),
+      ),
+    )

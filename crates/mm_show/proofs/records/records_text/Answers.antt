@@ -1,4 +1,5 @@
-use Rattle.std.proofs.Common.{◌≡◌, ◌∙◌, ◌+◌, ◌∷◌, ◌++◌, [], true, false, Some, Result, Ok, Err, map, take, arith, ap, sym, rules, append-nil}
+use Rattle.std.proofs.Common.{◌≡◌, ◌∙◌, ◌+◌, ◌∷◌, ◌++◌, [], true, false, Some, Result, Ok, Err, map, take, arith, ap}
+use Rattle.std.proofs.Common.{sym, rules, append-nil}
 use Rattle.std.specs.List.{flat_map}
 use Rattle.std.specs.Prelude.{OnOk}
 use Rattle.std.specs.Result.{is_ok}
@@ -21,19 +22,23 @@ loop-row-preserved c =
     let record_of = row_record c.args.table.now in
     let good : is_ok c.put_record.result ≡ true = search rules in
     let more = on_ok c.put_record.result good c.put_record.ensures.text in
-    let here : take (i + 1) rows ≡ take i rows ++ item ∷ [] = take_more rows i item (c.loop-row-test.true) ∙ ap (λ e. take i rows ++ e ∷ [])
+    let here : take (i + 1) rows ≡ take i rows ++ item ∷ [] = take_more rows i item (c.loop-row-test.true)
+    ∙ ap (λ e. take i rows ++ e ∷ [])
     (sym c.row-item.is) in
     let told : row_records c.args.table.now (map numbered_told (take (i + 1) rows)) ≡ row_records c.args.table.now
     (map numbered_told (take i rows)) ++ record_of (numbered_told item) =
-    ap (λ l. flat_map record_of (map numbered_told l)) here ∙ ap (flat_map record_of) (map-append numbered_told (take i rows) (item ∷ []))
+    ap (λ l. flat_map record_of (map numbered_told l)) here
+    ∙ ap (flat_map record_of) (map-append numbered_told (take i rows) (item ∷ []))
     ∙ flat_map-append record_of (map numbered_told (take i rows)) (numbered_told item ∷ []) ∙ ap
     (λ l. row_records c.args.table.now (map numbered_told (take i rows)) ++ l) (append-nil _) in
     record {
       start = on_ok c.put_record.result good c.put_record.ensures.start;
-      text = ap Some (more ∙ ap (λ l. l ++ record_of (numbered_told item)) (same_some c.loop-row.invariant.text) ∙ sym told);
+      text = ap Some (more ∙ ap (λ l. l ++ record_of (numbered_told item)) (same_some c.loop-row.invariant.text)
+          ∙ sym told);
     }
 
 pub returns-in-Ok : goal.returns-in-Ok
 returns-in-Ok c =
     let whole = take_all c.loop-row.row-index c.args.rows.now (omega (arith, c.loop-row-test.false)) in
-    c.in-Ok.ensures.ok ∙ same_some c.loop-row.invariant.text ∙ ap (λ l. row_records c.args.table.now (map numbered_told l)) whole
+    c.in-Ok.ensures.ok ∙ same_some c.loop-row.invariant.text
+    ∙ ap (λ l. row_records c.args.table.now (map numbered_told l)) whole

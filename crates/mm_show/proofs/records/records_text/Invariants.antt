@@ -7,5 +7,6 @@ use Rattle.mm_show.proofs.records.records_text.Given as goal
 abbrev pub invariant-loop-row : goal.invariant-loop-row
 invariant-loop-row l = record {
   start : IsAtStart l.records;
-  text : text_written (λ v. Some v.items) l.records ≡ Some (row_records l.table (map numbered_told (take l.row-index l.rows)));
+  text : text_written (λ v. Some v.items) l.records
+      ≡ Some (row_records l.table (map numbered_told (take l.row-index l.rows)));
 }

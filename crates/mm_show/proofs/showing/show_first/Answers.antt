@@ -20,7 +20,8 @@ returns-in_err-print_rows-clause-shown g c =
     first_stops c.args.table.now c.args.id (map numbered_told rows) (written g.W.Write.contents c.args.output.now)
     (written g.W.Write.contents c.print_rows.new.output)
     c.from_residual.result c.in_err-print_rows.field-0.0 (p.1 ∙ ap Err p.2) (numbered_told c.index-rows-0.result) same.0
-    (subst (λ l. IsBegun (g.W.Write.contents (inside c.args.output.now)) (g.W.Write.contents (inside c.print_rows.new.output))
+    (subst (λ l. IsBegun (g.W.Write.contents (inside c.args.output.now))
+    (g.W.Write.contents (inside c.print_rows.new.output))
     (row_records c.args.table.now l)) (same.1 ∙ sym same.0) cut.0) cut.1
 
 pub returns-clause-shown : goal.returns-clause-shown
@@ -33,7 +34,8 @@ returns-clause-shown g c =
       numbered_told c.index-rows-0.result,
       same.0,
       subst
-          (λ l. Appends (g.W.Write.contents (inside c.args.output.now)) (g.W.Write.contents (inside c.print_rows.new.output))
+          (λ l. Appends (g.W.Write.contents (inside c.args.output.now))
+          (g.W.Write.contents (inside c.print_rows.new.output))
           (row_records c.args.table.now l)) (same.1 ∙ sym same.0) whole.0,
       whole.1,
     )

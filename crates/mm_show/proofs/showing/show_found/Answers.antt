@@ -27,7 +27,8 @@ returns-in_err-print_from-in-None-clause-shown g c p on meets lists read =
     let here = read ∙ ap (λ (o : Option ℤ). first_rows p table (unwrap_or o (pos 1))) c.in-None.is in
     subst (λ (o : Option ℤ). ShowsRecords p table o old new c.from_residual.result) (sym c.in-None.is)
     (all_cut p table lists meets old new c.in_err-print_from-in-None.field-0.0
-    (c.in_err-print_from-in-None.ensures.printed p on lists (pos 1) here) c.from_residual.result c.from_residual.ensures.0)
+    (c.in_err-print_from-in-None.ensures.printed p on lists (pos 1) here) c.from_residual.result
+    c.from_residual.ensures.0)
 
 pub returns-in_ok-print_from-in-None-clause-shown : goal.returns-in_ok-print_from-in-None-clause-shown
 returns-in_ok-print_from-in-None-clause-shown g c p on meets lists read =

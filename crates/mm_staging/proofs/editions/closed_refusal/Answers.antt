@@ -7,12 +7,14 @@ use Rattle.mm_staging.proofs.editions.closed_refusal.Goals as goal
 pub returns-in-Some-Open : goal.returns-in-Some-Open
 returns-in-Some-Open g c =
     tells c.in_ok-standing_of.ensures
-    (λ profile p says. closed_not p c.args.edition.now (says ∙ ap (option_map standing_text) (c.in-Some-Open.is ∙ ap Some c.in-Some-Open.field-0-is)))
+    (λ profile p says. closed_not p c.args.edition.now
+    (says ∙ ap (option_map standing_text) (c.in-Some-Open.is ∙ ap Some c.in-Some-Open.field-0-is)))
 
 pub returns-in-Some-Published : goal.returns-in-Some-Published
 returns-in-Some-Published g c =
     tells c.in_ok-standing_of.ensures
-    (λ profile p says. closed_55 p c.args.edition.now (says ∙ ap (option_map standing_text) (c.in-Some-Published.is ∙ ap Some c.in-Some-Published.field-0-is)))
+    (λ profile p says. closed_55 p c.args.edition.now
+    (says ∙ ap (option_map standing_text) (c.in-Some-Published.is ∙ ap Some c.in-Some-Published.field-0-is)))
 
 pub returns-in-None : goal.returns-in-None
 returns-in-None g c = tells c.in_ok-standing_of.ensures

@@ -9,7 +9,8 @@ pub returns-in-Some : goal.returns-in-Some
 returns-in-Some g c =
     let edition = c.as_str-edition.result.now in
     rw (← c.as_str-edition.ensures.text) (rw c.refused.ensures (declines c.in_ok-standing_of.ensures
-    (λ profile p meets says. refused_for _ 50 (taken_50 p edition (says ∙ ap (option_map standing_text) c.in-Some.is)))))
+    (λ profile p meets says. refused_for _ 50
+    (taken_50 p edition (says ∙ ap (option_map standing_text) c.in-Some.is)))))
 
 pub returns-in_err-standing_of : goal.returns-in_err-standing_of
 returns-in_err-standing_of g c =
@@ -19,9 +20,11 @@ pub returns : goal.returns
 returns g c =
     let edition = c.as_str-edition.result.now in
     rw (← c.as_str-edition.ensures.text) (applies c.in_ok-standing_of.ensures c.in_ok-insert_edition.ensures
-    (λ moment profile p meets says. let none = says ∙ ap (option_map standing_text) c.in-None.is in (none, accepted_for _ (free_50 p edition none), refl)))
+    (λ moment profile p meets says. let none = says ∙ ap (option_map standing_text) c.in-None.is in
+    (none, accepted_for _ (free_50 p edition none), refl)))
 
 pub returns-in_err-insert_edition : goal.returns-in_err-insert_edition
 returns-in_err-insert_edition g c =
     rw (← c.as_str-edition.ensures.text) (applies_not c.in_ok-standing_of.ensures c.in_err-insert_edition.ensures
-    (λ profile p meets says. says ∙ ap (option_map standing_text) c.in-None.is) c.from_residual-in_err-insert_edition.ensures.1)
+    (λ profile p meets says. says ∙ ap (option_map standing_text) c.in-None.is)
+    c.from_residual-in_err-insert_edition.ensures.1)

@@ -4,7 +4,8 @@ use Rattle.mm_staging.proofs.editions.standing_of.Goals as goal
 
 pub returns-in-Some-standing_named : goal.returns-in-Some-standing_named
 returns-in-Some-standing_named g c =
-    tells c.in_ok-text.ensures (λ profile p says. says ∙ ap (option_map string_bytes) c.in-Some.is ∙ ap Some (sym c.as_str.ensures.value ∙ c.in-Some-standing_named.ensures))
+    tells c.in_ok-text.ensures (λ profile p says. says ∙ ap (option_map string_bytes) c.in-Some.is
+    ∙ ap Some (sym c.as_str.ensures.value ∙ c.in-Some-standing_named.ensures))
 
 pub returns-in-Some : goal.returns-in-Some
 returns-in-Some g c = denied c.in_ok-text.ensures (inr refl)

@@ -18,4 +18,5 @@ returns g c =
     asks_one statement.state_of_edition c.first_text.ensures (Words table ∷ []) (search rules)
     (λ version p db h x first gives finds.
     mapped_same (get p.editions table) ∙ text_found parts.editions (db 23) p.editions h.editions table
-    (shows (col 1 2 ∷ []) (Words table ∷ [])) (λ state. state) (λ r v is. columns_are r (edition_row table v) 1 is) x first gives finds)
+    (shows (col 1 2 ∷ []) (Words table ∷ [])) (λ state. state) (λ r v is. columns_are r (edition_row table v) 1 is) x
+    first gives finds)

@@ -26,10 +26,17 @@ returns g c = record {
       let old = state g.S.Store c.args.tx.now.conn.now in
       let new = state g.S.Store c.all.new.tx.conn.now in
       let edition = c.args.edition.now in
-      lists profile old new _ _ spare (λ rows. rows.items) (λ x rows. ListsEach rows.items (FreedByEdition edition x.kept)) c.all.result c.all.ensures.listed (λ rows ready shown.
-      let read = selects_all _ _ _ _ _ _ statement.blobs_of_pieces old new ready.schema_is (Words edition ∷ []) _ (search rules) rows.items shown in (
+      lists profile old new _ _ spare (λ rows. rows.items)
+      (λ x rows. ListsEach rows.items (FreedByEdition edition x.kept)) c.all.result c.all.ensures.listed
+      (λ rows ready shown.
+      let read = selects_all _ _ _ _ _ _ statement.blobs_of_pieces old new ready.schema_is (Words edition ∷ []) _
+      (search rules) rows.items shown in (
         read.1,
-        λ x h. lists_freed piece_id staged_row (seen old 25) x.kept.pieces (kept_in spare spare profile.version (seen old) x h).pieces (λ k. is_other edition k.edition) (passes (equals 1 0 ∷ op1 Not (is_absent 14) ∷ []) (Words edition ∷ [])) (shows (col 1 14 ∷ []) (Words edition ∷ []))
-            (λ r k i z is gone named. hits_piece edition r k i z is gone named) (λ r k i z is named. columns_are r (staged_row k i) 13 is ∙ ap maybe named) rows.items read.0,
+        λ x h. lists_freed piece_id staged_row (seen old 25) x.kept.pieces
+            (kept_in spare spare profile.version (seen old) x h).pieces (λ k. is_other edition k.edition)
+            (passes (equals 1 0 ∷ op1 Not (is_absent 14) ∷ []) (Words edition ∷ []))
+            (shows (col 1 14 ∷ []) (Words edition ∷ []))
+            (λ r k i z is gone named. hits_piece edition r k i z is gone named)
+            (λ r k i z is named. columns_are r (staged_row k i) 13 is ∙ ap maybe named) rows.items read.0,
       ));
 }

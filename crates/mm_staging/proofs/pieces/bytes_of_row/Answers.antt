@@ -1,4 +1,5 @@
-use Rattle.std.proofs.Common.{◌≡◌, ℤ, Some, None, [], Option, refl, sym, ap, subst, ◌∙◌, rules, w64, to_z, of_z, to_z-of_z}
+use Rattle.std.proofs.Common.{◌≡◌, ℤ, Some, None, [], Option, refl, sym, ap, subst, ◌∙◌, rules, w64, to_z, of_z}
+use Rattle.std.proofs.Common.{to_z-of_z}
 use Rattle.std.proofs.lemmas.Result.{err_from_is_err_and}
 use Rattle.sqlite.specs.Held.{state}
 use Rattle.sqlite.specs.Order.{column}
@@ -22,15 +23,25 @@ returns-in_ok-bytes_of-in-Some g c = record {
       let bytes = c.in_ok-bytes_of-in-Some.field-0 in
       let back : to_z w64 (of_z w64 blob) ≡ blob = search (rules, to_z-of_z) in
       let named : column row 11 ≡ maybe (Some blob) = c.in_ok-blob.ensures.shown ∙ ap maybe c.in-Some.is in
-      moves_as {Less = λ base x it y. (y ≡ x) × IsSeen spare profile s1 base y × ((o : Option ℤ) → column row 11 ≡ maybe o → StandsAt y.kept.shelf o (bytes_or_none it))} s0 s1 bytes (Some bytes) ((rw back at c.in_ok-bytes_of-in-Some.ensures.found) profile spare) (λ base x it. it.1)
-      (λ base x y it last. (last.0, last.1, λ o is. subst (λ (q : Option ℤ). StandsAt y.kept.shelf q (bytes_or_none (Some bytes))) (maybe_is (Some blob) o (sym named ∙ is)) last.2));
+      moves_as {Less = λ base x it y. (y ≡ x) × IsSeen spare profile s1 base y
+      × ((o : Option ℤ) → column row 11 ≡ maybe o → StandsAt y.kept.shelf o (bytes_or_none it))} s0 s1 bytes
+      (Some bytes) ((rw back at c.in_ok-bytes_of-in-Some.ensures.found) profile spare) (λ base x it. it.1)
+      (λ base x y it last. (
+        last.0,
+        last.1,
+        λ o is. subst
+            (λ (q : Option ℤ). StandsAt y.kept.shelf q (bytes_or_none (Some bytes)))
+            (maybe_is (Some blob) o (sym named ∙ is))
+            last.2,
+      ));
 }
 
 pub returns-in_err-bytes_of-in-Some : goal.returns-in_err-bytes_of-in-Some
 returns-in_err-bytes_of-in-Some g c = record {
   same = search rules;
   told = λ profile spare.
-      let p = err_from_is_err_and c.from_residual-in_err-bytes_of-in-Some.result c.from_residual-in_err-bytes_of-in-Some.ensures.1 in
+      let p = err_from_is_err_and c.from_residual-in_err-bytes_of-in-Some.result
+      c.from_residual-in_err-bytes_of-in-Some.ensures.1 in
       rw (p.1, p.2) (move_failed _ _ _ (c.in_err-bytes_of-in-Some.ensures.found profile spare) (λ base x it. it.1));
 }
 
@@ -42,7 +53,16 @@ returns-in-None g c = record {
       record {
         survives = commits_nothing _;
         on = λ clean base x it. it.1.back;
-        moved = λ clean base x it. (it.0, x, (refl, it.1, λ o is. subst (λ (q : Option ℤ). StandsAt x.kept.shelf q []) (maybe_is None o (sym named ∙ is)) refl));
+        moved = λ clean base x it. (
+          it.0,
+          x,
+          (
+            refl,
+            it.1,
+            λ o is. subst (λ (q : Option ℤ). StandsAt x.kept.shelf q []) (maybe_is None o (sym named ∙ is))
+                refl,
+          ),
+        );
         faults = tt;
       };
 }
@@ -52,5 +72,10 @@ returns-in_err-blob g c = record {
   same = search rules;
   told = λ profile spare.
       let p = err_from_is_err_and c.from_residual.result c.from_residual.ensures.1 in
-      rw (p.1, p.2) (record { survives = commits_nothing _; on = λ clean base x it. it.1.back; moved = λ clean base x it. tt; faults = c.in_err-blob.ensures.fault });
+      rw (p.1, p.2) (record {
+        survives = commits_nothing _;
+        on = λ clean base x it. it.1.back;
+        moved = λ clean base x it. tt;
+        faults = c.in_err-blob.ensures.fault;
+      });
 }

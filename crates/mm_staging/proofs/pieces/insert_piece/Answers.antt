@@ -18,11 +18,13 @@ pub returns-then-is_empty : goal.returns-then-is_empty
 returns-then-is_empty g c =
     let a = c.args in
     let s1 = state g.S.Store c.insert_row.new.tx.conn.now in
-    let next = λ (p : Package). record p { pieces = insert p.pieces (piece a.edition.now a.number) (written_row a.written) } in
+    let next = λ (p : Package). record p
+    { pieces = insert p.pieces (piece a.edition.now a.number) (written_row a.written) } in
     let none : length a.written.bytes.now ≡ 0 = search (rules, c.if-is_empty.true, c.is_empty.ensures) in
     let nothing : a.written.bytes.now ≡ [] = nil_from_length _ none in
     changes_where c.insert_row.ensures.same
-    (λ profile. moves_less (λ base x _ y. (y.content ≡ next x.content) × IsSeen no_spare profile s1 base y) _ s1 c.insert_row.result
+    (λ profile. moves_less (λ base x _ y. (y.content ≡ next x.content) × IsSeen no_spare profile s1 base y) _ s1
+    c.insert_row.result
     ((rw (to_z-of_z c.ranges.number) at c.insert_row.ensures.named) profile no_spare)
     (λ base x it. (it.0, (nothing, it.1))) (λ base x y t it last. last))
 
@@ -47,9 +49,11 @@ returns g c =
     (λ base x y it mid. (mid.1, (mid.2, ap (λ (p : Package). get p.pieces key) mid.0 ∙ it.1)))
     (λ base x y z u it mid last. (
       last.0 ∙ ap next mid.0,
-      seen_looser (spare_but blob (spare_too blob no_spare)) no_spare profile s2 base z (named_again no_spare blob) last.1,
+      seen_looser (spare_but blob (spare_too blob no_spare)) no_spare profile s2 base z (named_again no_spare blob)
+          last.1,
     )))
 
 pub returns-in_err-blob : goal.returns-in_err-blob
 returns-in_err-blob g c =
-    move_failed_all c.in_err-blob.ensures.same (λ profile. c.in_err-blob.ensures.kept profile no_spare) c.from_residual.ensures.1
+    move_failed_all c.in_err-blob.ensures.same (λ profile. c.in_err-blob.ensures.kept profile no_spare)
+    c.from_residual.ensures.1

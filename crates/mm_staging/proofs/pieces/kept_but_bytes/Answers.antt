@@ -25,7 +25,8 @@ pub returns-in-Ok : goal.returns-in-Ok
 returns-in-Ok g c =
     let key = piece c.args.edition.now c.args.number in
     looks_of (finds_as (rw (to_z-of_z c.ranges.number) at c.in_ok-row.ensures)
-    (λ v says. row_keeps v.kept.shelf (get v.kept.pieces key) (get v.content.pieces key) c.in-Some.row (kept_row c.in-Ok.kept)
+    (λ v says. row_keeps v.kept.shelf (get v.kept.pieces key) (get v.content.pieces key) c.in-Some.row
+    (kept_row c.in-Ok.kept)
     (subst (IsPieceRow (get v.kept.pieces key)) c.in-Some.is says.0) says.1 c.in-Ok.ensures.shown))
 
 pub returns : goal.returns

@@ -17,7 +17,8 @@ returns-in-Some-spelled g c =
     let there = says.1 ∙ ap (option_map (kept_with says.0)) c.in-Some.is in
     let outline = c.in-Some-spelled.outline in (
       says.0,
-      there ∙ ap Some (spelled_row profile _ (with_bytes says.0 outline) (meets.q15.spelled _ _ there) (c.in-Some-spelled.ensures says.0)),
+      there ∙ ap Some (spelled_row profile _ (with_bytes says.0 outline) (meets.q15.spelled _ _ there)
+          (c.in-Some-spelled.ensures says.0)),
     )))
 
 pub returns-in-None-spelled : goal.returns-in-None-spelled

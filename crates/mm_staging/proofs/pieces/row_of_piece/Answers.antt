@@ -22,9 +22,13 @@ returns g c = record {
       let new = state g.S.Store c.first.new.tx.conn.now in
       let key = piece c.args.edition.now c.args.number in
       let params = Words key.edition ∷ Int key.number ∷ [] in
-      looks profile old new _ _ spare (λ (it : Option Row) first. it ≡ first) (λ x row. IsPieceRow (get x.kept.pieces key) row × Told piece_id piece_with x.kept.shelf (get x.kept.pieces key) (get x.content.pieces key)) c.first.result c.first.ensures.asked (λ it first ready shown gives.
-      let read = selects_one _ _ _ _ _ _ statement.piece_values old new ready.schema_is params _ (search rules) first shown in (
+      looks profile old new _ _ spare (λ (it : Option Row) first. it ≡ first)
+      (λ x row. IsPieceRow (get x.kept.pieces key) row × Told piece_id piece_with x.kept.shelf (get x.kept.pieces key)
+      (get x.content.pieces key)) c.first.result c.first.ensures.asked (λ it first ready shown gives.
+      let read = selects_one _ _ _ _ _ _ statement.piece_values old new ready.schema_is params _ (search rules) first
+      shown in (
         read.0,
-        λ x h. let kept = kept_in spare spare profile.version (seen old) x h in (found_row (seen old 25) x.kept.pieces kept.pieces key params it first gives read.1, kept.pieces_told key),
+        λ x h. let kept = kept_in spare spare profile.version (seen old) x h in
+            (found_row (seen old 25) x.kept.pieces kept.pieces key params it first gives read.1, kept.pieces_told key),
       ));
 }

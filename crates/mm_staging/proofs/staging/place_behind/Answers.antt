@@ -7,7 +7,8 @@ use Rattle.mm_staging.proofs.staging.place_behind.Goals as goal
 pub returns-then-branch : goal.returns-then-branch
 returns-then-branch g c =
     tells (rw (to_z-of_z c.ranges.number) at c.in_ok-is_behind.ensures)
-    (λ profile p says. place_next p c.args.edition.now c.args.number c.next_place.result (says.yes c.if-branch.true) (rw (to_z-of_z c.ranges.number) at c.next_place.ensures))
+    (λ profile p says. place_next p c.args.edition.now c.args.number c.next_place.result (says.yes c.if-branch.true)
+    (rw (to_z-of_z c.ranges.number) at c.next_place.ensures))
 
 pub returns-else-branch : goal.returns-else-branch
 returns-else-branch g c =

@@ -19,5 +19,6 @@ returns g c =
     (search rules) statement.last_piece first shown in (
       read.0,
       λ version p h. last_found (seen old 25) h.kept.pieces p.pieces
-          (told_there piece_id piece_with h.kept.shelf h.kept.pieces p.pieces h.keeps.pieces_told) h.keeps.pieces a.edition.now x first gives read.1,
+          (told_there piece_id piece_with h.kept.shelf h.kept.pieces p.pieces h.keeps.pieces_told) h.keeps.pieces
+          a.edition.now x first gives read.1,
     ))

@@ -12,7 +12,9 @@ returns-in-Ok g c = record {
       let new = state g.S.Store c.query_all-shown.new.self.conn.now in
       record {
         survives = c.query_all-shown.ensures.survives;
-        on = λ clean inside ground. kept_on old new (query_all_keeps old new (λ rows. rows.items) inside _ _ c.query_all-shown.result (c.query_all-shown.ensures.ok clean) (c.query_all-shown.ensures.err clean)) ground;
+        on = λ clean inside ground. kept_on old new
+            (query_all_keeps old new (λ rows. rows.items) inside _ _ c.query_all-shown.result
+            (c.query_all-shown.ensures.ok clean) (c.query_all-shown.ensures.err clean)) ground;
         lists = λ clean. c.in-Ok.ensures.ok clean;
         faults = tt;
       };
@@ -26,7 +28,9 @@ returns-in-Err g c = record {
       let new = state g.S.Store c.query_all-shown.new.self.conn.now in
       record {
         survives = c.query_all-shown.ensures.survives;
-        on = λ clean inside ground. kept_on old new (query_all_keeps old new (λ rows. rows.items) inside _ _ c.query_all-shown.result (c.query_all-shown.ensures.ok clean) (c.query_all-shown.ensures.err clean)) ground;
+        on = λ clean inside ground. kept_on old new
+            (query_all_keeps old new (λ rows. rows.items) inside _ _ c.query_all-shown.result
+            (c.query_all-shown.ensures.ok clean) (c.query_all-shown.ensures.err clean)) ground;
         lists = λ clean. tt;
         faults = told_fault c.in-Err.error c.fault_of.result c.fault_of.ensures;
       };

@@ -4,7 +4,12 @@ use Rattle.mm_store.proofs.Asking.{some_asked, fault_asked}
 use Rattle.mm_store.proofs.statements.exists.Goals as goal
 
 pub returns : goal.returns
-returns g c = record { same = search rules; asked = some_asked _ _ _ _ c.in_ok-row.row c.is_some.result c.is_some.ensures c.in_ok-row.ensures.asked; failed = λ clean. tt }
+returns g c = record {
+  same = search rules;
+  asked = some_asked _ _ _ _ c.in_ok-row.row c.is_some.result
+      c.is_some.ensures c.in_ok-row.ensures.asked;
+  failed = λ clean. tt;
+}
 
 pub returns-in_err-row : goal.returns-in_err-row
 returns-in_err-row g c = record {

@@ -12,7 +12,9 @@ returns-in-Ok g c = record {
       let new = state g.S.Store c.query_all.new.self.conn.now in
       record {
         survives = c.query_all.ensures.survives;
-        on = λ clean inside ground. kept_on old new (query_all_keeps old new (λ rows. rows.items) inside _ _ c.query_all.result (c.query_all.ensures.ok clean) (c.query_all.ensures.err clean)) ground;
+        on = λ clean inside ground. kept_on old new
+            (query_all_keeps old new (λ rows. rows.items) inside _ _ c.query_all.result (c.query_all.ensures.ok clean)
+            (c.query_all.ensures.err clean)) ground;
         gives = λ clean. (c.first_of.result, (c.in-Ok.rows.items, c.in-Ok.ensures.ok clean, c.first_of.ensures), refl);
         faults = tt;
       };
@@ -27,7 +29,9 @@ returns-in-Err g c = record {
       let new = state g.S.Store c.query_all.new.self.conn.now in
       record {
         survives = c.query_all.ensures.survives;
-        on = λ clean inside ground. kept_on old new (query_all_keeps old new (λ rows. rows.items) inside _ _ c.query_all.result (c.query_all.ensures.ok clean) (c.query_all.ensures.err clean)) ground;
+        on = λ clean inside ground. kept_on old new
+            (query_all_keeps old new (λ rows. rows.items) inside _ _ c.query_all.result (c.query_all.ensures.ok clean)
+            (c.query_all.ensures.err clean)) ground;
         gives = λ clean. tt;
         faults = told_fault c.in-Err.error c.fault_of.result c.fault_of.ensures;
       };

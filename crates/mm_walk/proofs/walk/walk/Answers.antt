@@ -9,7 +9,8 @@ use Rattle.mm_walk.proofs.walk.walk.Goals as goal
 pub returns-in-Err : goal.returns-in-Err
 returns-in-Err g c =
     let rests = rw c.in-Err.is at c.query.follows.holds-at-none in
-    refused g.S.Store g.V.Visitor.takes c.args.sql.now (bound c.args.params.now) c.args.conn.now c.query.follows.lender-at-none c.args.visitor.now c.in-Err.error c.fault_of.result c.fault_of.ensures
+    refused g.S.Store g.V.Visitor.takes c.args.sql.now (bound c.args.params.now) c.args.conn.now
+    c.query.follows.lender-at-none c.args.visitor.now c.in-Err.error c.fault_of.result c.fault_of.ensures
     rests.mode rests.survives rests.err
 
 pub rows-init : goal.rows-init
@@ -26,8 +27,10 @@ returns-then-not-branch g c =
     let new = c.next.follows.lender-at-none.conn.now in
     let takes = g.V.Visitor.takes in
     let step : takes c.rows.visitor c.in-Ok-Some.row.now c.take.new.self (Ok false) = search rules in
-    let it : IsWalk takes c.args.sql.now (bound c.args.params.now) (state g.S.Store c.args.conn.now) (state g.S.Store new) c.args.visitor.now c.take.new.self (Ok false) =
-    stopped g.S.Store takes c.args.sql.now (bound c.args.params.now) c.args.conn.now c.rows.rows.conn.now c.args.visitor.now c.rows.visitor c.rows.invariant.1 new moved.mode moved.survives
+    let it : IsWalk takes c.args.sql.now (bound c.args.params.now) (state g.S.Store c.args.conn.now)
+    (state g.S.Store new) c.args.visitor.now c.take.new.self (Ok false) =
+    stopped g.S.Store takes c.args.sql.now (bound c.args.params.now) c.args.conn.now c.rows.rows.conn.now
+    c.args.visitor.now c.rows.visitor c.rows.invariant.1 new moved.mode moved.survives
     (λ clean. rw c.in-Ok-Some.is at (moved.same clean)) c.in-Ok-Some.row.now
     (λ clean given has. (rw (c.in-Ok-Some.is, c.in-Ok-Some.field-0-is) at (moved.ok clean)) _ _ given has)
     c.take.new.self step in
@@ -39,9 +42,12 @@ returns-in_err-take-in-Ok-Some g c =
     let moved = c.next.follows.holds-at-none in
     let new = c.next.follows.lender-at-none.conn.now in
     let takes = g.V.Visitor.takes in
-    let step : takes c.rows.visitor c.in-Ok-Some.row.now c.take.new.self (Err c.in_err-take-in-Ok-Some.field-0.0) = search rules in
-    let it : IsWalk takes c.args.sql.now (bound c.args.params.now) (state g.S.Store c.args.conn.now) (state g.S.Store new) c.args.visitor.now c.take.new.self (Err c.in_err-take-in-Ok-Some.field-0.0) =
-    gave_up g.S.Store takes c.args.sql.now (bound c.args.params.now) c.args.conn.now c.rows.rows.conn.now c.args.visitor.now c.rows.visitor c.rows.invariant.1 new moved.mode moved.survives
+    let step : takes c.rows.visitor c.in-Ok-Some.row.now c.take.new.self (Err c.in_err-take-in-Ok-Some.field-0.0) =
+    search rules in
+    let it : IsWalk takes c.args.sql.now (bound c.args.params.now) (state g.S.Store c.args.conn.now)
+    (state g.S.Store new) c.args.visitor.now c.take.new.self (Err c.in_err-take-in-Ok-Some.field-0.0) =
+    gave_up g.S.Store takes c.args.sql.now (bound c.args.params.now) c.args.conn.now c.rows.rows.conn.now
+    c.args.visitor.now c.rows.visitor c.rows.invariant.1 new moved.mode moved.survives
     (λ clean. rw c.in-Ok-Some.is at (moved.same clean)) c.in-Ok-Some.row.now
     (λ clean given has. (rw (c.in-Ok-Some.is, c.in-Ok-Some.field-0-is) at (moved.ok clean)) _ _ given has)
     c.take.new.self c.in_err-take-in-Ok-Some.field-0.0 step in
@@ -52,9 +58,12 @@ returns-in-Ok-None g c =
     let moved = c.next.follows.holds-at-none in
     let new = c.next.follows.lender-at-none.conn.now in
     let takes = g.V.Visitor.takes in
-    let it : IsWalk takes c.args.sql.now (bound c.args.params.now) (state g.S.Store c.args.conn.now) (state g.S.Store new) c.args.visitor.now c.rows.visitor (Ok true) =
-    ended g.S.Store takes c.args.sql.now (bound c.args.params.now) c.args.conn.now c.rows.rows.conn.now c.args.visitor.now c.rows.visitor c.rows.invariant.1 new moved.mode moved.survives
-    (λ clean. rw c.in-Ok-None.is at (moved.same clean)) (λ clean given has. (rw (c.in-Ok-None.is, c.in-Ok-None.field-0-is) at (moved.ok clean)) _ _ given has) in
+    let it : IsWalk takes c.args.sql.now (bound c.args.params.now) (state g.S.Store c.args.conn.now)
+    (state g.S.Store new) c.args.visitor.now c.rows.visitor (Ok true) =
+    ended g.S.Store takes c.args.sql.now (bound c.args.params.now) c.args.conn.now c.rows.rows.conn.now
+    c.args.visitor.now c.rows.visitor c.rows.invariant.1 new moved.mode moved.survives
+    (λ clean. rw c.in-Ok-None.is at (moved.same clean))
+    (λ clean given has. (rw (c.in-Ok-None.is, c.in-Ok-None.field-0-is) at (moved.ok clean)) _ _ given has) in
     search rules
 
 pub returns-in-Err-next : goal.returns-in-Err-next
@@ -62,9 +71,12 @@ returns-in-Err-next g c =
     let moved = c.next.follows.holds-at-none in
     let new = c.next.follows.lender-at-none.conn.now in
     let takes = g.V.Visitor.takes in
-    let it : IsWalk takes c.args.sql.now (bound c.args.params.now) (state g.S.Store c.args.conn.now) (state g.S.Store new) c.args.visitor.now c.rows.visitor (Err c.fault_of-in-Err-next.result) =
-    cut_off g.S.Store takes c.args.sql.now (bound c.args.params.now) c.args.conn.now c.rows.rows.conn.now c.args.visitor.now c.rows.visitor c.rows.invariant.1 new moved.mode moved.survives
-    c.in-Err-next.error c.fault_of-in-Err-next.result c.fault_of-in-Err-next.ensures (λ clean. rw c.in-Err-next.is at (moved.kept clean)) in
+    let it : IsWalk takes c.args.sql.now (bound c.args.params.now) (state g.S.Store c.args.conn.now)
+    (state g.S.Store new) c.args.visitor.now c.rows.visitor (Err c.fault_of-in-Err-next.result) =
+    cut_off g.S.Store takes c.args.sql.now (bound c.args.params.now) c.args.conn.now c.rows.rows.conn.now
+    c.args.visitor.now c.rows.visitor c.rows.invariant.1 new moved.mode moved.survives
+    c.in-Err-next.error c.fault_of-in-Err-next.result c.fault_of-in-Err-next.ensures
+    (λ clean. rw c.in-Err-next.is at (moved.kept clean)) in
     search rules
 
 pub rows-preserved : goal.rows-preserved
@@ -74,7 +86,8 @@ rows-preserved g c =
     let takes = g.V.Visitor.takes in
     let step : takes c.rows.visitor c.in-Ok-Some.row.now c.take.new.self (Ok true) = search rules in (
       moved.same_reference ∙ c.rows.invariant.0,
-      goes_on g.S.Store takes c.args.sql.now (bound c.args.params.now) c.args.conn.now c.rows.rows.conn.now c.args.visitor.now c.rows.visitor c.rows.invariant.1 new moved.mode moved.survives
+      goes_on g.S.Store takes c.args.sql.now (bound c.args.params.now) c.args.conn.now c.rows.rows.conn.now
+          c.args.visitor.now c.rows.visitor c.rows.invariant.1 new moved.mode moved.survives
           (λ clean. rw c.in-Ok-Some.is at (moved.same clean)) c.in-Ok-Some.row.now
           (λ clean given has. (rw (c.in-Ok-Some.is, c.in-Ok-Some.field-0-is) at (moved.ok clean)) _ _ given has)
           c.take.new.self step,

@@ -14,6 +14,9 @@ returns-clause-settled g c clean p seen meets = elim (cases_Bool (must_reopen c.
         λ db may. inl (subst (λ s. (state g.S.Store (connection s)).may_leave db) same may, refl),
       )
   | inr works ↦
-      let it = c.edition.ensures.read works in
-      (it.seen clean p seen, λ db may. elim (it.survives.crash clean db may) [ inl was ↦ inl (was, refl) | inr none ↦ absurd none ])
+      let it = c.edition.ensures.read works in (
+        it.seen clean p seen,
+        λ db may. elim (it.survives.crash clean db may)
+            [ inl was ↦ inl (was, refl) | inr none ↦ absurd none ],
+      )
 ]

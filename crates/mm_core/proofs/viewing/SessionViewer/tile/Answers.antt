@@ -9,7 +9,8 @@ use Rattle.mm_core.proofs.viewing.SessionViewer.tile.Goals as goal
 pub returns-clause-kept : goal.returns-clause-kept
 returns-clause-kept g c = elim (cases_Bool (must_reopen c.args.self.now)) [
   | inl failed ↦
-      subst (λ s. LeavesPackage (state g.S.Store (connection c.args.self.now)) (state g.S.Store (connection s))) (sym (c.tile.ensures.ended failed).1)
+      subst (λ s. LeavesPackage (state g.S.Store (connection c.args.self.now)) (state g.S.Store (connection s)))
+      (sym (c.tile.ensures.ended failed).1)
       (leaves_same (state g.S.Store (connection c.args.self.now)))
   | inr works ↦ leaves_by _ _ _ _ (c.tile.ensures.read works)
 ]

@@ -239,7 +239,11 @@ static void remove_pieces(const char *edition, sqlite3_int64 count) {
     static sqlite3_stmt *made;
     sqlite3_int64 *blobs = calloc(count, sizeof *blobs), found = 0;
     want(blobs != NULL, "memory");
-    ask(&made, "SELECT blob FROM mm_pieces WHERE edition = ?1 AND blob IS NOT NULL", "t", edition);
+    ask(&made,
+        "SELECT p.blob FROM mm_pieces AS p WHERE p.edition = ?1 AND p.blob IS NOT NULL "
+        "AND NOT EXISTS (SELECT 1 FROM mm_tiles AS t WHERE t.blob = p.blob) "
+        "AND NOT EXISTS (SELECT 1 FROM mm_media AS m WHERE m.blob = p.blob)",
+        "t", edition);
     for (; found < count && sqlite3_data_count(made) > 0; sqlite3_step(made))
         blobs[found++] = sqlite3_column_int64(made, 0);
     sqlite3_reset(made);

@@ -6,7 +6,7 @@ ghost use Rattle.mm_definitions.specs.Editions.{closed};
 ghost use Rattle.mm_definitions.specs.Effects.{is_other};
 ghost use Rattle.mm_definitions.specs.Package.{published_state};
 ghost use Rattle.mm_edition.specs.Turns.{TriesPieces, Publishes};
-ghost use Rattle.mm_store.specs.Removals.{FreedByEdition};
+ghost use Rattle.mm_staging.specs.Alone.{FreedByPiecesAlone};
 ghost use Rattle.mm_store.specs.Handed.{Changes, ChangesWhere};
 ghost use Rattle.mm_blobs.specs.Handed.{Frees};
 
@@ -16,7 +16,7 @@ use mm_definitions::answers::{Fault, Outcome, Refusal};
 use mm_definitions::limits::MOST_PIECES;
 use mm_definitions::names::Name;
 use mm_definitions::refusals::Reason;
-use mm_staging::{blobs_of_pieces, closed_refusal};
+use mm_staging::{blobs_of_pieces_alone, closed_refusal};
 use mm_store::statements::run;
 use sqlite::{Alter, Transaction, params};
 
@@ -56,7 +56,7 @@ fn mark_published<S: Alter>(tx: &mut Transaction<'_, S>, edition: &str) -> Resul
 
 /// Removes the rows of the pieces of an edition. Blobs stay that nothing names any more.
 fn delete_piece_rows<S: Alter>(tx: &mut Transaction<'_, S>, edition: &str) -> Result<(), Fault>
-    ensures { Frees S.Store tx.old tx.new (FreedByEdition edition.now)
+    ensures { Frees S.Store tx.old tx.new (FreedByPiecesAlone edition.now)
         (λ p. record p { pieces = retain_keys p.pieces (λ k. is_other edition.now k.edition) })
         result }
 {
@@ -73,7 +73,7 @@ fn delete_pieces<S: Alter>(tx: &mut Transaction<'_, S>, edition: &str) -> Result
         (λ p. record p { pieces = retain_keys p.pieces (λ k. is_other edition.now k.edition) })
         result }
 {
-    let blobs = blobs_of_pieces(tx, edition)?;
+    let blobs = blobs_of_pieces_alone(tx, edition)?;
     delete_piece_rows(tx, edition)?;
     release_each(tx, blobs.as_slice())
 }

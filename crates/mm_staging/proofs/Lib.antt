@@ -7,3 +7,4 @@ pub mod Spelled
 pub mod LastPiece
 pub mod Naming
 pub mod Freeing
+pub mod Alone

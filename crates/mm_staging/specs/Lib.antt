@@ -4,3 +4,4 @@ pub mod Outlines
 pub mod Places
 pub mod States
 pub mod Handed
+pub mod Alone

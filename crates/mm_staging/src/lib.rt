@@ -19,6 +19,6 @@ mod states;
 
 pub use editions::{closed_refusal, discard, open_edition};
 pub use outlines::Outline;
-pub use pieces::{blobs_of_pieces, outline_of};
+pub use pieces::{blobs_of_pieces_alone, outline_of};
 pub use staging::stage;
 pub use states::edition;

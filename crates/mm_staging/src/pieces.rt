@@ -10,6 +10,7 @@ ghost use Rattle.mm_store.specs.Kept.{piece_id, piece_with};
 ghost use Rattle.mm_store.specs.Removals.{FreedByEdition};
 ghost use Rattle.mm_store.specs.Rows.{maybe};
 ghost use Rattle.mm_blobs.specs.Views.{ListsEach};
+ghost use Rattle.mm_staging.specs.Alone.{FreedByPiecesAlone};
 ghost use Rattle.mm_staging.specs.Kept.{kept_row, written_row, bytes_or_none, IsKeptRow, IsPieceRow};
 ghost use Rattle.mm_staging.specs.Outlines.{IsOutlined};
 ghost use Rattle.mm_store.specs.Handed.{Looks, Tells, ChangesWhere, LooksByRules};
@@ -190,7 +191,7 @@ pub(crate) fn insert_piece<S: Alter>(
 }
 
 /// The ids of the blobs that the pieces of an edition name.
-pub fn blobs_of_pieces<S: Alter>(
+pub(crate) fn blobs_of_pieces<S: Alter>(
     tx: &mut Transaction<'_, S>,
     edition: &str,
 ) -> Result<Vec<Row>, Fault>
@@ -200,6 +201,21 @@ pub fn blobs_of_pieces<S: Alter>(
     all(
         tx,
         "SELECT blob FROM mm_pieces WHERE edition = ?1 AND blob IS NOT NULL",
+        params![edition],
+    )
+}
+
+/// The ids of the blobs that the pieces of an edition name, and no tile and no medium.
+pub fn blobs_of_pieces_alone<S: Alter>(
+    tx: &mut Transaction<'_, S>,
+    edition: &str,
+) -> Result<Vec<Row>, Fault>
+    ensures { Finds S.Store tx.old tx.new (λ y rows. ListsEach rows.items
+        (FreedByPiecesAlone edition.now y.kept)) result }
+{
+    all(
+        tx,
+        "SELECT p.blob FROM mm_pieces AS p WHERE p.edition = ?1 AND p.blob IS NOT NULL AND NOT EXISTS (SELECT 1 FROM mm_tiles AS t WHERE t.blob = p.blob) AND NOT EXISTS (SELECT 1 FROM mm_media AS m WHERE m.blob = p.blob)",
         params![edition],
     )
 }

@@ -8,7 +8,8 @@ use Rattle.sql_forms.proofs.Deletes.{has_deleted}
 use Rattle.mm_definitions.specs.Effects.{is_other}
 use Rattle.mm_store.proofs.Deleting as statement
 use Rattle.mm_store.specs.Kept.{no_spare}
-use Rattle.mm_store.specs.Removals.{kept_without_edition, FreedByEdition}
+use Rattle.mm_store.specs.Removals.{kept_without_edition}
+use Rattle.mm_staging.specs.Alone.{FreedByPiecesAlone}
 use Rattle.mm_store.proofs.Keys.{by_text}
 use Rattle.mm_blobs.specs.Views.{View, IsSeen}
 use Rattle.mm_blobs.proofs.Moving.{moves_run, moves_less, seen}
@@ -26,7 +27,7 @@ returns g c = record {
       { pieces = retain_keys x.content.pieces (λ k. is_other edition k.edition) }) × IsSeen more profile new base y) old
       new c.run.result
       (moves_run profile old new _ _ no_spare (λ db. with_tree db 25 (without (by_text edition) (db 25)))
-      (λ x. (z : ℤ) → FreedByEdition edition x.kept z → more z ≡ true)
+      (λ x. (z : ℤ) → FreedByPiecesAlone edition x.kept z → more z ≡ true)
       (λ x. record {
         content = record (x.content)
             { pieces = retain_keys x.content.pieces (λ k. is_other edition k.edition) };

@@ -1,6 +1,7 @@
 use Rattle.mm_store.specs.Kept.{no_spare}
 use Rattle.mm_blobs.specs.Views.{spare_each}
 use Rattle.mm_blobs.proofs.Viewing.{finds_failed, frees, releases, cleared, clears_failed}
+use Rattle.mm_staging.specs.Alone.{FreedByPiecesAlone}
 use Rattle.mm_staging.proofs.Freeing.{listed_too}
 use Rattle.mm_edition.proofs.publishing.delete_pieces.Goals as goal
 
@@ -13,7 +14,7 @@ returns g c =
     cleared
     (releases no_spare
     (frees c.in_ok-blobs.ensures c.in_ok-delete_piece_rows.ensures (spare_each blobs no_spare)
-    (λ v says. listed_too c.args.edition.now v.kept blobs says))
+    (λ v says. listed_too (FreedByPiecesAlone c.args.edition.now v.kept) blobs says))
     c.as_slice.ensures.value c.release_each.ensures)
 
 pub returns-in_err-delete_piece_rows : goal.returns-in_err-delete_piece_rows
@@ -21,5 +22,5 @@ returns-in_err-delete_piece_rows g c =
     let blobs = c.in_ok-blobs.blobs.items in
     clears_failed
     (frees c.in_ok-blobs.ensures c.in_err-delete_piece_rows.ensures (spare_each blobs no_spare)
-    (λ v says. listed_too c.args.edition.now v.kept blobs says))
+    (λ v says. listed_too (FreedByPiecesAlone c.args.edition.now v.kept) blobs says))
     c.from_residual-in_err-delete_piece_rows.ensures.1

@@ -16,7 +16,6 @@ use Rattle.mm_definitions.specs.Records.{with_piece, id_field, IsLeast, IsMet, I
 use Rattle.mm_definitions.specs.Records.{HoldsAgainstPiece, Spells, HoldsAgainst, piece_word, piece_values}
 use Rattle.mm_definitions.specs.Records.{command_word, command_values}
 use Rattle.mm_definitions.specs.Records as forms
-use Rattle.mm_definitions.specs.Pieces.{piece_command}
 use Rattle.mm_definitions.specs.Within.{IsWithin, IsPieceWithin, Takes}
 use Rattle.mm_definitions.specs.declared.answers.ReadFault.{ReadFault}
 use Rattle.mm_definitions.specs.declared.answers.ReadFault.TheVariants as faults
@@ -104,40 +103,18 @@ no_more_forms [] others word e = e
 no_more_forms (entry ∷ entries) others word e = ap (λ o. if bytes_eq word entry.0 then Some entry.1 else o)
     (no_more_forms entries others word e)
 
-same_word : (q : Piece) → command_word (piece_command q) ≡ piece_word q
-same_word (Tile table zoom column row bytes) = refl
-same_word (TileDrop table zoom column row) = refl
-same_word (Row table id title note amount) = refl
-same_word (RowDrop table id) = refl
-same_word (Media table id content_type bytes) = refl
-same_word (MediaDrop table id) = refl
-same_word (Map mapping base_id related_id) = refl
-same_word (MapDrop mapping base_id related_id) = refl
-same_word (pieces.Matrix table zoom matrix) = refl
-
-same_values : (q : Piece) → command_values (piece_command q) ≡ piece_values q
-same_values (Tile table zoom column row bytes) = refl
-same_values (TileDrop table zoom column row) = refl
-same_values (Row table id title note amount) = refl
-same_values (RowDrop table id) = refl
-same_values (Media table id content_type bytes) = refl
-same_values (MediaDrop table id) = refl
-same_values (Map mapping base_id related_id) = refl
-same_values (MapDrop mapping base_id related_id) = refl
-same_values (pieces.Matrix table zoom matrix) = refl
-
 same_form : (word : Text) (texts : List Text) → (word ≡ codes "stage" → ⊥) → Differs (other_forms current) word
     → record_form current (word ∷ texts) ≡ form_of (piece_forms current) word
 same_form word texts stage others = rw (differs word (codes "stage") stage) (no_more_forms (piece_forms current) (other_forms current) word (no_form (other_forms current) word others))
 
 pub edit_arm : (r : Result Command ReadFault) (xs : List (Bor Text)) → 1 ≤ length xs → (text_at xs 0 ≡ codes "stage" → ⊥)
     → Differs (other_forms current) (text_at xs 0)
-    → ReadsTo (λ c. (q : Piece) × (c ≡ piece_command q) × SpellsPiece current (texts_of xs) q)
+    → ReadsTo (λ c. (q : Piece) × (c ≡ commands.Edit q) × SpellsPiece current (texts_of xs) q)
     (IsLeast (HoldsAgainstPiece current (texts_of xs))) r
     → ReadsTo (Spells current (texts_of xs)) (IsLeast (HoldsAgainst current (texts_of xs))) r
 edit_arm r xs some stage others h =
     subst (λ ts. ReadsTo (Spells current ts) (IsLeast (HoldsAgainst current ts)) r) (sym whole)
-    (by r (subst (λ ts. ReadsTo (λ c. (q : Piece) × (c ≡ piece_command q) × SpellsPiece current ts q)
+    (by r (subst (λ ts. ReadsTo (λ c. (q : Piece) × (c ≡ commands.Edit q) × SpellsPiece current ts q)
     (IsLeast (HoldsAgainstPiece current ts)) r) whole h))
   where
     whole : texts_of xs ≡ text_at xs 0 ∷ texts_of (rest_of xs)
@@ -147,15 +124,15 @@ edit_arm r xs some stage others h =
     same = same_form (text_at xs 0) (texts_of (rest_of xs)) stage others
 
     by : (r : Result Command ReadFault)
-        → ReadsTo (λ c. (q : Piece) × (c ≡ piece_command q)
+        → ReadsTo (λ c. (q : Piece) × (c ≡ commands.Edit q)
         × SpellsPiece current (text_at xs 0 ∷ texts_of (rest_of xs)) q)
         (IsLeast (HoldsAgainstPiece current (text_at xs 0 ∷ texts_of (rest_of xs)))) r
         → ReadsTo (Spells current (text_at xs 0 ∷ texts_of (rest_of xs)))
         (IsLeast (HoldsAgainst current (text_at xs 0 ∷ texts_of (rest_of xs)))) r
     by (Ok c) (q, is, (word, met)) = (
-      word ∙ sym (same_word q) ∙ ap command_word (sym is),
+      word ∙ ap command_word (sym is),
       subst (λ vs. IsMet (record_form current (text_at xs 0 ∷ texts_of (rest_of xs))) (texts_of (rest_of xs)) vs)
-          (sym (same_values q) ∙ ap command_values (sym is))
+          (ap command_values (sym is))
           (subst (λ o. IsMet o (texts_of (rest_of xs)) (piece_values q)) (sym same) met),
     )
     by (Err faults.Memory) h = tt
@@ -200,10 +177,11 @@ all_within (f ∷ fs) (t ∷ ts) (v ∷ vs) h = (holds_within f t v h.0, all_wit
 
 met_by_piece : (ts : List Text) (q : Piece) → IsMet (form_of (piece_forms current) (piece_word q)) ts (piece_values q)
     → IsPieceWithin current q
-met_by_piece ts (Tile table zoom column row bytes) h = let a = all_within forms.tile_form ts
-    (piece_values (Tile table zoom column row bytes)) h in (a.0, a.1.0, a.1.1.0, a.1.1.1.0, a.1.1.1.1.0)
-met_by_piece ts (TileDrop table zoom column row) h = let a = all_within forms.tile_drop_form ts
-    (piece_values (TileDrop table zoom column row)) h in (a.0, a.1.0, a.1.1.0, a.1.1.1.0)
+met_by_piece ts (Tile table place bytes) h = let a = all_within forms.tile_form ts
+    (piece_values (Tile table place bytes)) h in
+    (a.0, record { zoom = a.1.0; column = a.1.1.0; row = a.1.1.1.0 }, a.1.1.1.1.0)
+met_by_piece ts (TileDrop table place) h = let a = all_within forms.tile_drop_form ts
+    (piece_values (TileDrop table place)) h in (a.0, record { zoom = a.1.0; column = a.1.1.0; row = a.1.1.1.0 })
 met_by_piece ts (Row table id title note amount) h = let a = all_within forms.row_form ts
     (piece_values (Row table id title note amount)) h in (a.0, a.1.0, a.1.1.0, a.1.1.1.0, a.1.1.1.1.0)
 met_by_piece ts (RowDrop table id) h = let a = all_within forms.item_form ts (piece_values (RowDrop table id)) h in
@@ -225,8 +203,7 @@ met_by_piece ts (pieces.Matrix table zoom matrix) h = let a =
         mh = a.1.1.1.0;
         tw = a.1.1.1.1.0;
         th = a.1.1.1.1.1.0;
-        px =
-            a.1.1.1.1.1.1.0;
+        px = a.1.1.1.1.1.1.0;
         py = a.1.1.1.1.1.1.1.0;
       },
     )
@@ -242,8 +219,8 @@ piece_within (Ok q) N ts h = spelled_piece ts q h
 piece_within (Err fault) N ts h = tt
 
 taken : (q : Piece) → Takes current q
-taken (Tile table zoom column row bytes) = tt
-taken (TileDrop table zoom column row) = tt
+taken (Tile table place bytes) = tt
+taken (TileDrop table place) = tt
 taken (Row table id title note amount) = tt
 taken (RowDrop table id) = tt
 taken (Media table id content_type bytes) = tt
@@ -252,17 +229,20 @@ taken (Map mapping base_id related_id) = tt
 taken (MapDrop mapping base_id related_id) = tt
 taken (pieces.Matrix table zoom matrix) = refl
 
+edit_form : (ts : List Text) (q : Piece)
+    → record_form current (piece_word q ∷ ts) ≡ form_of (piece_forms current) (piece_word q)
+edit_form ts (Tile table place bytes) = refl
+edit_form ts (TileDrop table place) = refl
+edit_form ts (Row table id title note amount) = refl
+edit_form ts (RowDrop table id) = refl
+edit_form ts (Media table id content_type bytes) = refl
+edit_form ts (MediaDrop table id) = refl
+edit_form ts (Map mapping base_id related_id) = refl
+edit_form ts (MapDrop mapping base_id related_id) = refl
+edit_form ts (pieces.Matrix table zoom matrix) = refl
+
 met_by_command : (ts : List Text) (c : Command)
     → IsMet (record_form current (command_word c ∷ ts)) ts (command_values c) → IsWithin current c
-met_by_command ts (commands.Tile table zoom column row bytes) h = met_by_piece ts (Tile table zoom column row bytes) h
-met_by_command ts (commands.TileDrop table zoom column row) h = met_by_piece ts (TileDrop table zoom column row) h
-met_by_command ts (commands.Row table id title note amount) h = met_by_piece ts (Row table id title note amount) h
-met_by_command ts (commands.RowDrop table id) h = met_by_piece ts (RowDrop table id) h
-met_by_command ts (commands.Media table id content_type bytes) h = met_by_piece ts (Media table id content_type bytes) h
-met_by_command ts (commands.MediaDrop table id) h = met_by_piece ts (MediaDrop table id) h
-met_by_command ts (commands.Map mapping base_id related_id) h = met_by_piece ts (Map mapping base_id related_id) h
-met_by_command ts (commands.MapDrop mapping base_id related_id) h = met_by_piece ts (MapDrop mapping base_id related_id)
-    h
 met_by_command ts (commands.Srs id name organization organization_id definition description) h = let a =
     all_within forms.srs_form ts (command_values (commands.Srs id name organization organization_id definition
     description)) h in (a.0, a.1.0, a.1.1.0, a.1.1.1.0, a.1.1.1.1.0, a.1.1.1.1.1.0)
@@ -270,7 +250,8 @@ met_by_command ts (commands.Pyramid table identifier srs min_x min_y max_x max_y
     all_within (forms.pyramid_form current) ts (command_values
     (commands.Pyramid table identifier srs min_x min_y max_x max_y step)) h in
     (a.0, a.1.0, a.1.1.0, a.1.1.1.0, a.1.1.1.1.0, a.1.1.1.1.1.0, a.1.1.1.1.1.1.0)
-met_by_command ts (commands.Matrix table zoom matrix) h = met_by_piece ts (pieces.Matrix table zoom matrix) h
+met_by_command ts (commands.Edit q) h = met_by_piece ts q
+    (subst (λ o. IsMet o ts (piece_values q)) (edit_form ts q) h)
 met_by_command ts (commands.Table table kind identifier) h = let a = all_within forms.table_form ts
     (command_values (commands.Table table kind identifier)) h in (a.0, a.1.1.0)
 met_by_command ts (commands.Drop table) h = let a = all_within forms.name_form ts (command_values (commands.Drop table))

@@ -13,6 +13,7 @@ use mm_definitions::answers::ReadFault;
 use mm_definitions::bytes::{MediaBytes, TileBytes};
 use mm_definitions::commands::{Matrix, Piece};
 use mm_definitions::content_types::ContentType;
+use mm_definitions::places::TilePlace;
 use mm_definitions::refusals::Reason;
 use mm_definitions::texts::Remark;
 use std::alloc::Global;
@@ -38,9 +39,7 @@ fn read_tile(alloc: Global, fields: &[&str]) -> Result<Piece, ReadFault>
     )?;
     Ok(Piece::Tile {
         table,
-        zoom,
-        column,
-        row,
+        place: TilePlace { zoom, column, row },
         bytes,
     })
 }
@@ -63,9 +62,7 @@ fn read_tile_drop(fields: &[&str]) -> Result<Piece, ReadFault>
     )?;
     Ok(Piece::TileDrop {
         table,
-        zoom,
-        column,
-        row,
+        place: TilePlace { zoom, column, row },
     })
 }
 

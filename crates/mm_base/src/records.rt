@@ -1,12 +1,11 @@
 //! Readers of the records of commands.
 
-ghost use Rattle.std.specs.Prelude.{◌≡◌, true, IfOk, map, codes};
+ghost use Rattle.std.specs.Prelude.{◌≡◌, IfOk, map, codes};
 ghost use Rattle.mm_definitions.specs.Bounds.{current};
 ghost use Rattle.mm_definitions.specs.Reading.{ReadsTo};
 ghost use Rattle.mm_definitions.specs.Fields.{AllHold, IsAgainstSome};
 ghost use Rattle.mm_definitions.specs.Records.{IsLeast, command_values, command_word, Spells, HoldsAgainst, HoldsAgainstPiece, SpellsPiece, IsMet, IsUnmet, stage_form};
-ghost use Rattle.mm_definitions.specs.PieceGroups.{changes_tile, changes_item, changes_mapping, puts_matrix};
-ghost use Rattle.mm_definitions.specs.Pieces.{piece_command};
+ghost use Rattle.mm_definitions.specs.declared.commands.Command.TheVariants as commands;
 ghost use Rattle.mm_definitions.specs.declared.commands.Piece.{Piece};
 ghost use Rattle.mm_definitions.specs.Records as forms;
 ghost use Rattle.mm_definitions.specs.Within.{IsWithin};
@@ -17,7 +16,7 @@ use crate::fields::{
 };
 use crate::pieces::read_piece;
 use mm_definitions::answers::ReadFault;
-use mm_definitions::commands::{Command, Piece};
+use mm_definitions::commands::Command;
 use mm_definitions::identifiers::Identifier;
 use mm_definitions::refusals::Reason;
 use mm_definitions::texts::{Definition, Remark, SystemName};
@@ -251,144 +250,14 @@ fn read_stage(alloc: Global, fields: &[&str]) -> Result<Command, ReadFault>
     })
 }
 
-/// The command that a piece is which changes a tile.
-fn tile_command(piece: Piece) -> Command
-    requires { changes_tile piece ≡ true }
-    ensures { result ≡ piece_command piece }
-{
-    match piece {
-        Piece::Tile {
-            table,
-            zoom,
-            column,
-            row,
-            bytes,
-        } => Command::Tile {
-            table,
-            zoom,
-            column,
-            row,
-            bytes,
-        },
-        Piece::TileDrop {
-            table,
-            zoom,
-            column,
-            row,
-        } => Command::TileDrop {
-            table,
-            zoom,
-            column,
-            row,
-        },
-        _ => unreachable!(),
-    }
-}
-
-/// The command that a piece is which changes an attribute row or a medium.
-fn item_command(piece: Piece) -> Command
-    requires { changes_item piece ≡ true }
-    ensures { result ≡ piece_command piece }
-{
-    match piece {
-        Piece::Row {
-            table,
-            id,
-            title,
-            note,
-            amount,
-        } => Command::Row {
-            table,
-            id,
-            title,
-            note,
-            amount,
-        },
-        Piece::RowDrop { table, id } => Command::RowDrop { table, id },
-        Piece::Media {
-            table,
-            id,
-            content_type,
-            bytes,
-        } => Command::Media {
-            table,
-            id,
-            content_type,
-            bytes,
-        },
-        Piece::MediaDrop { table, id } => Command::MediaDrop { table, id },
-        _ => unreachable!(),
-    }
-}
-
-/// The command that a piece is which changes a mapping row.
-fn mapping_command(piece: Piece) -> Command
-    requires { changes_mapping piece ≡ true }
-    ensures { result ≡ piece_command piece }
-{
-    match piece {
-        Piece::Map {
-            mapping,
-            base_id,
-            related_id,
-        } => Command::Map {
-            mapping,
-            base_id,
-            related_id,
-        },
-        Piece::MapDrop {
-            mapping,
-            base_id,
-            related_id,
-        } => Command::MapDrop {
-            mapping,
-            base_id,
-            related_id,
-        },
-        _ => unreachable!(),
-    }
-}
-
-/// The command that a piece is which puts a matrix.
-fn matrix_command(piece: Piece) -> Command
-    requires { puts_matrix piece ≡ true }
-    ensures { result ≡ piece_command piece }
-{
-    match piece {
-        Piece::Matrix {
-            table,
-            zoom,
-            matrix,
-        } => Command::Matrix {
-            table,
-            zoom,
-            matrix,
-        },
-        _ => unreachable!(),
-    }
-}
-
-/// The command that a piece is.
-fn command_of(piece: Piece) -> Command
-    ensures { result ≡ piece_command piece }
-{
-    match piece {
-        Piece::Tile { .. } | Piece::TileDrop { .. } => tile_command(piece),
-        Piece::Row { .. } | Piece::RowDrop { .. } | Piece::Media { .. } | Piece::MediaDrop { .. } =>
-            item_command(piece),
-        Piece::Map { .. } | Piece::MapDrop { .. } => mapping_command(piece),
-        Piece::Matrix { .. } => matrix_command(piece),
-    }
-}
-
 /// The command that the record of a piece spells.
 fn read_edit(alloc: Global, fields: &[&str]) -> Result<Command, ReadFault>
-    ensures { ReadsTo (λ c. (q : Piece) × (c ≡ piece_command q)
+    ensures { ReadsTo (λ c. (q : Piece) × (c ≡ commands.Edit q)
         × SpellsPiece current (map (λ f. f.now) fields.now) q)
         (IsLeast (HoldsAgainstPiece current (map (λ f. f.now) fields.now))) result }
 {
     let piece = read_piece(alloc, fields)?;
-    Ok(command_of(piece))
+    Ok(Command::Edit(piece))
 }
 
 /// The command that a record spells.

@@ -203,8 +203,7 @@ module _ (spare : Spare) (tables : Trees) (x : Kept) (p : Package) (h : HoldsKep
     media_told = h.media_told;
     pieces_told = h.pieces_told;
     are = h.are;
-    named = λ z b is.
-        elim (h.named z b is) [ inl named ↦ inl named | inr spared ↦ inr (too_before spare id z spared) ];
+    named = λ z b is. elim (h.named z b is) [ inl named ↦ inl named | inr spared ↦ inr (too_before spare id z spared) ];
   }
 
   pub keeps_named : (id : ℤ) → IsNamed x id → HoldsKept (spare_but id spare) tables x p

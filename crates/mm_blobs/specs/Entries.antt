@@ -28,16 +28,14 @@ NamedAt {I = I} id_of ids k z = (i : I) × (get ids k ≡ Some i) × (id_of i �
 abbrev pub with_tile : TileKey → ℤ → List ℕ → View → View
 with_tile key blob bytes x = record {
   content = record (x.content) { tiles = insert x.content.tiles key bytes };
-  kept = record (x.kept)
-      { tiles = insert x.kept.tiles key blob };
+  kept = record (x.kept) { tiles = insert x.kept.tiles key blob };
 }
 
 -- the tile is removed from both, and all blobs stay
 abbrev pub without_tile : TileKey → View → View
 without_tile key x = record {
   content = record (x.content) { tiles = remove x.content.tiles key };
-  kept = record
-      (x.kept) { tiles = remove x.kept.tiles key };
+  kept = record (x.kept) { tiles = remove x.kept.tiles key };
 }
 
 -- a medium as its row holds it, of this blob and content type
@@ -48,14 +46,12 @@ medium_of blob content_type = record { blob = blob; content_type = content_type 
 abbrev pub with_medium : Item → MediumRow → List ℕ → View → View
 with_medium key i bytes x = record {
   content = record (x.content) { media = insert x.content.media key (medium_with i bytes) };
-  kept = record (x.kept)
-      { media = insert x.kept.media key i };
+  kept = record (x.kept) { media = insert x.kept.media key i };
 }
 
 -- the medium is removed from both, and all blobs stay
 abbrev pub without_medium : Item → View → View
 without_medium key x = record {
   content = record (x.content) { media = remove x.content.media key };
-  kept = record
-      (x.kept) { media = remove x.kept.media key };
+  kept = record (x.kept) { media = remove x.kept.media key };
 }

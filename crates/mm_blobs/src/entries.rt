@@ -27,7 +27,12 @@ pub fn blob_of_tile<S: Alter>(
     first_number(
         tx,
         "SELECT blob FROM mm_tiles WHERE table_name = ?1 AND zoom_level = ?2 AND tile_column = ?3 AND tile_row = ?4 LIMIT 1",
-        params![table, u32::from(place.zoom), place.column, place.row],
+        params![
+            table,
+            u32::from(place.zoom.get()),
+            place.column.get(),
+            place.row.get()
+        ],
     )
 }
 

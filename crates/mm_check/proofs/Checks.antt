@@ -163,8 +163,7 @@ gives_up old new A C r fault is one = let h = subst (IsFormCheck old new A) is o
       same = λ clean. tt;
       seen = h.seen;
       settled = h.settled;
-      says =
-          λ clean kept keeps. tt;
+      says = λ clean kept keeps. tt;
       faults = h.faults;
     }
 

@@ -22,7 +22,7 @@ use Rattle.mm_definitions.specs.Bounds.{Profile, IsName, IsMatrixSide, IsTileSid
 use Rattle.mm_definitions.specs.Bounds.{IsLong, IsTileBytes, IsMediaBytes, MostPieces}
 use Rattle.mm_definitions.specs.Keys.{Text, PieceKey, piece}
 use Rattle.mm_definitions.specs.Package.{Package, PieceRow, open_state}
-use Rattle.mm_definitions.specs.Pieces.{piece_row}
+use Rattle.mm_definitions.specs.Pieces.{piece_row, place_in}
 use Rattle.mm_definitions.specs.Within.{IsPieceWithin, Takes}
 use Rattle.mm_definitions.specs.Rules.{Limits, Editions, IsSpelled}
 use Rattle.mm_definitions.specs.declared.commands.Piece.{Piece}
@@ -186,8 +186,7 @@ same_row : {kind : Text} {k1 k2 k3 : ℤ} {t1 t2 : Text} {bytes : List ℕ} (v :
       k4 = pos 0;
       k5 = pos 0;
       k6 = pos 0;
-      k7 = pos
-          0;
+      k7 = pos 0;
       t1 = t1;
       t2 = t2;
       bytes = bytes;
@@ -221,13 +220,11 @@ to_content profile v d data_is named h = go h.1
     go : PutsEntry (shown v d) ⊎ IsDrop (shown v d) → IsSpelled profile v
     go (inl (inl (is, (zoom, column, row), (a, b), bytes))) =
         let z = natural v.k1 zoom.0 in let c = natural v.k2 column.0 in let r = natural v.k3 row.0 in (
-          Tile v.name (unsigned_abs v.k1) (unsigned_abs v.k2) (unsigned_abs v.k3) v.bytes,
+          Tile v.name (place_in v) v.bytes,
           same_row v three (same_some is) z c r (same_some a) (same_some b) refl,
           (
             named,
-            subst IsZoom z zoom,
-            subst IsTilePlace c column,
-            subst IsTilePlace r row,
+            record { zoom = subst IsZoom z zoom; column = subst IsTilePlace c column; row = subst IsTilePlace r row },
             bytes_from v.bytes d data_is IsTileBytes bytes,
           ),
           tt,
@@ -253,9 +250,12 @@ to_content profile v d data_is named h = go h.1
     )
     go (inr (inl (is, (zoom, column, row), (a, b), none))) =
         let z = natural v.k1 zoom.0 in let c = natural v.k2 column.0 in let r = natural v.k3 row.0 in (
-          TileDrop v.name (unsigned_abs v.k1) (unsigned_abs v.k2) (unsigned_abs v.k3),
+          TileDrop v.name (place_in v),
           same_row v three (same_some is) z c r (same_some a) (same_some b) (no_bytes none),
-          (named, subst IsZoom z zoom, subst IsTilePlace c column, subst IsTilePlace r row),
+          (
+            named,
+            record { zoom = subst IsZoom z zoom; column = subst IsTilePlace c column; row = subst IsTilePlace r row },
+          ),
           tt,
         )
     go (inr (inr (inl (is, (id, a, b), (c, d), none)))) = (
@@ -321,8 +321,7 @@ to_matrix profile v d data_is named (takes, is, zoom, (mw, mh, tw, th), px, py, 
           mw = subst IsMatrixSide w mw;
           mh = subst IsMatrixSide h mh;
           tw = subst IsTileSide x tw;
-          th = subst IsTileSide y
-              th;
+          th = subst IsTileSide y th;
           px = px;
           py = py;
         },
@@ -342,24 +341,26 @@ to_spelled profile v d data_is h =
 of_piece : (profile : Profile) (q : Piece) (d : Value) → IsDataOf (piece_row q).bytes d → IsPieceWithin profile q
     → Takes profile q
     → IsSpelledRow profile (shown (piece_row q) d)
-of_piece profile (Tile table zoom column row bytes) d data_is w takes =
+of_piece profile (Tile table place bytes) d data_is w takes =
     record {
       name = (name_utf8 table w.0, w.0);
       form = inl (
         (refl, refl, refl, refl),
         inl (inl (
           refl,
-          (w.1, w.2, w.3),
+          (w.1.zoom, w.1.column, w.1.row),
           (refl, refl),
-          bytes_to bytes d data_is IsTileBytes (not_long _) w.4,
+          bytes_to bytes d data_is IsTileBytes (not_long _) w.2,
         )),
       );
     }
-of_piece profile (TileDrop table zoom column row) d data_is w takes =
+of_piece profile (TileDrop table place) d data_is w takes =
     record {
       name = (name_utf8 table w.0, w.0);
-      form = inl
-          ((refl, refl, refl, refl), inr (inl (refl, (w.1, w.2, w.3), (refl, refl), none_to [] d data_is refl)));
+      form = inl (
+        (refl, refl, refl, refl),
+        inr (inl (refl, (w.1.zoom, w.1.column, w.1.row), (refl, refl), none_to [] d data_is refl)),
+      );
     }
 of_piece profile (RowPiece table id title note amount) d data_is w takes =
     record {

@@ -5,16 +5,18 @@ use Rattle.std.specs.Prelude.{nat_le, int_le}
 use Rattle.std.specs.List.{list_all}
 use Rattle.std.specs.FinMap.{get, contains_key}
 use Rattle.mm_definitions.specs.Bounds.{Profile}
-use Rattle.mm_definitions.specs.Keys.{Text, same_text, level, tile, item}
+use Rattle.mm_definitions.specs.Keys.{Text, same_text, level, item}
 use Rattle.mm_definitions.specs.Parts.{at_value}
+use Rattle.mm_definitions.specs.Places.{tile_at}
 use Rattle.mm_definitions.specs.Package.{Package, Grid, kind_text, has_kind, is_pyramid}
 use Rattle.mm_definitions.specs.Rules.{Meets}
 use Rattle.mm_definitions.specs.Effects.{plain_kind}
-use Rattle.mm_definitions.specs.Conditions.{Reasons, least, own_reasons, outside, is_mapped}
+use Rattle.mm_definitions.specs.Conditions.{Reasons, least, piece_reasons, outside, is_mapped}
 use Rattle.mm_definitions.specs.declared.commands.Kind.{Kind}
 use Rattle.mm_definitions.specs.declared.commands.Kind.TheVariants as kinds
 use Rattle.mm_definitions.specs.declared.commands.PlainKind.{PlainKind}
-use Rattle.mm_definitions.specs.declared.commands.Command.TheVariants as commands
+use Rattle.mm_definitions.specs.declared.commands.Piece.TheVariants as pieces
+use Rattle.mm_definitions.specs.declared.places.TilePlace.{TilePlace}
 use Rattle.mm_definitions.proofs.FirstReason.{first_of}
 use Rattle.mm_layout.proofs.Registered.{lacks_contents, has_contents}
 
@@ -76,22 +78,22 @@ module _ (p : Package) (table : Text) where
 abbrev pub sides : Grid → ℤ × ℤ
 sides g = (g.matrix_width, g.matrix_height)
 
-module _ (p : Package) (table : Text) (zoom column row : ℕ) where
+module _ (p : Package) (table : Text) (place : TilePlace) where
   abbrev tiled : Bool
   tiled = is_pyramid p.kinds table
 
   abbrev grid_at : Option Grid
-  grid_at = get p.matrices (level table (pos zoom))
+  grid_at = get p.matrices (level table (pos place.zoom))
 
   module _ (bytes : List ℕ) where
     abbrev of_tile : Bool → Bool → Bool → Bool → Option ℕ
     of_tile stands suited there out = of_kind stands suited ((33, suited && not there) ∷ (34, out) ∷ [])
 
     abbrev why_tile : Option ℕ
-    why_tile = least (own_reasons p (commands.Tile table zoom column row bytes))
+    why_tile = least (piece_reasons p (pieces.Tile table place bytes))
 
     abbrev out : Bool
-    out = at_value (outside (pos column) (pos row)) grid_at
+    out = at_value (outside (pos place.column) (pos place.row)) grid_at
 
     pub tile_by_kind : (n : ℕ) → Some n ≡ of_kind (contains_key p.contents table) (is_pyramid p.kinds table) []
         → Some n ≡ why_tile
@@ -103,7 +105,7 @@ module _ (p : Package) (table : Text) (zoom column row : ℕ) where
       suited_tile there b = let k = kind_free (contains_key p.contents table) tiled free in ap
           (λ x. of_tile x tiled there b) k.0 ∙ ap (λ x. of_tile true x there b) k.1
 
-      pub tile_33 : option_map sides (get p.matrices (level table (pos zoom))) ≡ None → Some 33 ≡ why_tile
+      pub tile_33 : option_map sides (get p.matrices (level table (pos place.zoom))) ≡ None → Some 33 ≡ why_tile
       tile_33 none = sym (suited_tile (is_some grid_at) out
           ∙ ap (λ b. of_tile true true b out) (ap (λ (o : Option Grid). is_some o) (unmapped grid_at none))
           ∙ first_of 33 ((34, out) ∷ []) refl)
@@ -112,7 +114,7 @@ module _ (p : Package) (table : Text) (zoom column row : ℕ) where
           unmapped None e = refl
           unmapped (Some g) e = absurd (let f : ◌≡◌ {A = Option (ℤ × ℤ)} (Some (sides g)) None = e in cc)
 
-      module _ (width height : ℤ) (has : option_map sides (get p.matrices (level table (pos zoom)))
+      module _ (width height : ℤ) (has : option_map sides (get p.matrices (level table (pos place.zoom)))
           ≡ Some (width, height)) where
         grid_there : (o : Option Grid) → option_map sides o ≡ Some (width, height)
             → (g : Grid) × (o ≡ Some g) × (g.matrix_width ≡ width) × (g.matrix_height ≡ height)
@@ -120,29 +122,29 @@ module _ (p : Package) (table : Text) (zoom column row : ℕ) where
         grid_there (Some g) e = let same : sides g ≡ (width, height) =
             cc in (g, refl, ap (λ (q : ℤ × ℤ). q.0) same, ap (λ (q : ℤ × ℤ). q.1) same)
 
-        told : (b : Bool) → (int_le width (pos column) || int_le height (pos row)) ≡ b
+        told : (b : Bool) → (int_le width (pos place.column) || int_le height (pos place.row)) ≡ b
             → why_tile ≡ of_tile true true true b
         told b is =
             let g = grid_there grid_at has in
             suited_tile (is_some grid_at) out
             ∙ ap (λ x. of_tile true true x out) (ap (λ (o : Option Grid). is_some o) g.1)
-            ∙ ap (of_tile true true true) (ap (at_value (outside (pos column) (pos row))) g.1
-            ∙ (λ i. int_le (g.2 i) (pos column) || int_le (g.3 i) (pos row)) ∙ is)
+            ∙ ap (of_tile true true true) (ap (at_value (outside (pos place.column) (pos place.row))) g.1
+            ∙ (λ i. int_le (g.2 i) (pos place.column) || int_le (g.3 i) (pos place.row)) ∙ is)
 
-        pub tile_34 : (int_le width (pos column) || int_le height (pos row)) ≡ true → Some 34 ≡ why_tile
+        pub tile_34 : (int_le width (pos place.column) || int_le height (pos place.row)) ≡ true → Some 34 ≡ why_tile
         tile_34 is = sym (told true is)
 
-        pub tile_fits : (int_le width (pos column) || int_le height (pos row)) ≡ false → None ≡ why_tile
+        pub tile_fits : (int_le width (pos place.column) || int_le height (pos place.row)) ≡ false → None ≡ why_tile
         tile_fits is = sym (told false is)
 
   abbrev of_tile_drop : Bool → Bool → Bool → Option ℕ
   of_tile_drop stands suited there = of_kind stands suited ((35, suited && not there) ∷ [])
 
   abbrev why_tile_drop : Option ℕ
-  why_tile_drop = least (own_reasons p (commands.TileDrop table zoom column row))
+  why_tile_drop = least (piece_reasons p (pieces.TileDrop table place))
 
   abbrev tile_there : Bool
-  tile_there = contains_key p.tiles (tile table (pos zoom) (pos column) (pos row))
+  tile_there = contains_key p.tiles (tile_at table place)
 
   pub tile_drop_by_kind : (n : ℕ) → Some n ≡ of_kind (contains_key p.contents table) (is_pyramid p.kinds table) []
       → Some n ≡ why_tile_drop
@@ -155,11 +157,11 @@ module _ (p : Package) (table : Text) (zoom column row : ℕ) where
     suited_drop there = let k = kind_free (contains_key p.contents table) tiled free in ap
         (λ x. of_tile_drop x tiled there) k.0 ∙ ap (λ x. of_tile_drop true x there) k.1
 
-    pub tile_drop_35 : contains_key p.tiles (tile table (pos zoom) (pos column) (pos row)) ≡ false
+    pub tile_drop_35 : contains_key p.tiles (tile_at table place) ≡ false
         → Some 35 ≡ why_tile_drop
     tile_drop_35 gone = sym (suited_drop tile_there ∙ ap (of_tile_drop true true) gone)
 
-    pub tile_drop_free : contains_key p.tiles (tile table (pos zoom) (pos column) (pos row)) ≡ true
+    pub tile_drop_free : contains_key p.tiles (tile_at table place) ≡ true
         → None ≡ why_tile_drop
     tile_drop_free there = sym (suited_drop tile_there ∙ ap (of_tile_drop true true) there)
 
@@ -170,7 +172,7 @@ module _ (p : Package) (table : Text) (id : ℤ) where
   of_row_drop stands suited there mapped = of_kind stands suited ((40, suited && not there) ∷ (42, mapped) ∷ [])
 
   abbrev why_row_drop : Option ℕ
-  why_row_drop = least (own_reasons p (commands.RowDrop table id))
+  why_row_drop = least (piece_reasons p (pieces.RowDrop table id))
 
   abbrev row_suited : Bool
   row_suited = has_kind p.kinds table kinds.Attributes
@@ -208,7 +210,7 @@ module _ (p : Package) (table : Text) (id : ℤ) where
   of_medium_drop stands suited there mapped = of_kind stands suited ((41, suited && not there) ∷ (42, mapped) ∷ [])
 
   abbrev why_medium_drop : Option ℕ
-  why_medium_drop = least (own_reasons p (commands.MediaDrop table id))
+  why_medium_drop = least (piece_reasons p (pieces.MediaDrop table id))
 
   abbrev medium_suited : Bool
   medium_suited = has_kind p.kinds table kinds.Media

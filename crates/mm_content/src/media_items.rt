@@ -2,9 +2,10 @@
 
 ghost use Rattle.std.specs.Prelude.{None};
 ghost use Rattle.std.specs.FinMap.{insert, remove};
-ghost use Rattle.mm_definitions.specs.Conditions.{own_reasons};
+ghost use Rattle.mm_definitions.specs.Conditions.{piece_reasons};
 ghost use Rattle.mm_definitions.specs.Keys.{item};
 ghost use Rattle.mm_definitions.specs.declared.commands.Command.TheVariants as commands;
+ghost use Rattle.mm_definitions.specs.declared.commands.Piece.TheVariants as pieces;
 ghost use Rattle.mm_blobs.specs.Entries.{medium_of, with_medium, without_medium, medium_names};
 ghost use Rattle.mm_store.specs.Handed.{Changes, FindsRefusal};
 ghost use Rattle.mm_layout.specs.Handed.{Lends};
@@ -129,7 +130,8 @@ pub fn put_media<S: Alter>(
     bytes: &[u8],
     last_change: &str,
 ) -> Result<Outcome, Fault>
-    ensures { Lends S.Store tx.old tx.new (commands.Media table.now id content_type.now bytes.now)
+    ensures { Lends S.Store tx.old tx.new
+        (commands.Edit (pieces.Media table.now id content_type.now bytes.now))
         last_change.now result }
 {
     let table = table.as_str();
@@ -174,7 +176,7 @@ fn medium_drop_refusal<S: Alter>(
     id: i64,
 ) -> Result<Option<Reason>, Fault>
     ensures { FindsRefusal S.Store tx.old tx.new
-        (λ p. own_reasons p (commands.MediaDrop table.now id)) result }
+        (λ p. piece_reasons p (pieces.MediaDrop table.now id)) result }
 {
     if let Some(number) = plain_refusal(tx, table, PlainKind::Media)? {
         return Ok(Some(number));
@@ -198,7 +200,8 @@ pub fn drop_media<S: Alter>(
     id: i64,
     last_change: &str,
 ) -> Result<Outcome, Fault>
-    ensures { Lends S.Store tx.old tx.new (commands.MediaDrop table.now id) last_change.now result }
+    ensures { Lends S.Store tx.old tx.new (commands.Edit (pieces.MediaDrop table.now id))
+        last_change.now result }
 {
     let table = table.as_str();
     if let Some(number) = medium_drop_refusal(tx, table, id)? {

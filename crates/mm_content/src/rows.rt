@@ -2,9 +2,10 @@
 
 ghost use Rattle.std.specs.Prelude.{◌≡◌, None, true};
 ghost use Rattle.std.specs.FinMap.{get, contains_key, insert, remove};
-ghost use Rattle.mm_definitions.specs.Conditions.{own_reasons};
+ghost use Rattle.mm_definitions.specs.Conditions.{piece_reasons};
 ghost use Rattle.mm_definitions.specs.Keys.{item};
 ghost use Rattle.mm_definitions.specs.declared.commands.Command.TheVariants as commands;
+ghost use Rattle.mm_definitions.specs.declared.commands.Piece.TheVariants as pieces;
 ghost use Rattle.mm_store.specs.Handed.{Changes, ChangesWhere, FindsRefusal};
 ghost use Rattle.mm_layout.specs.Handed.{Lends};
 
@@ -97,7 +98,8 @@ pub fn put_row<S: Alter>(
     amount: i64,
     last_change: &str,
 ) -> Result<Outcome, Fault>
-    ensures { Lends S.Store tx.old tx.new (commands.Row table.now id title.now note.now amount)
+    ensures { Lends S.Store tx.old tx.new
+        (commands.Edit (pieces.Row table.now id title.now note.now amount))
         last_change.now result }
 {
     let table = table.as_str();
@@ -128,7 +130,7 @@ fn row_drop_refusal<S: Alter>(
     id: i64,
 ) -> Result<Option<Reason>, Fault>
     ensures { FindsRefusal S.Store tx.old tx.new
-        (λ p. own_reasons p (commands.RowDrop table.now id)) result }
+        (λ p. piece_reasons p (pieces.RowDrop table.now id)) result }
 {
     if let Some(number) = plain_refusal(tx, table, PlainKind::Attributes)? {
         return Ok(Some(number));
@@ -152,7 +154,8 @@ pub fn drop_row<S: Alter>(
     id: i64,
     last_change: &str,
 ) -> Result<Outcome, Fault>
-    ensures { Lends S.Store tx.old tx.new (commands.RowDrop table.now id) last_change.now result }
+    ensures { Lends S.Store tx.old tx.new (commands.Edit (pieces.RowDrop table.now id))
+        last_change.now result }
 {
     let table = table.as_str();
     if let Some(number) = row_drop_refusal(tx, table, id)? {

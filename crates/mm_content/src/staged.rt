@@ -4,6 +4,7 @@ ghost use Rattle.std.specs.Prelude.{◌≡◌, Some};
 ghost use Rattle.std.specs.FinMap.{insert};
 ghost use Rattle.mm_definitions.specs.Keys.{item};
 ghost use Rattle.mm_definitions.specs.declared.commands.Command.TheVariants as commands;
+ghost use Rattle.mm_definitions.specs.declared.commands.Piece.TheVariants as pieces;
 ghost use Rattle.mm_store.specs.Blobs.{bytes_at};
 ghost use Rattle.mm_definitions.specs.Places.{tile_at};
 ghost use Rattle.mm_content.specs.Staged.{HasBytes};
@@ -45,12 +46,12 @@ fn blob_of_piece<S: Alter>(
 fn write_tile_of_piece<S: Alter>(
     tx: &mut Transaction<'_, S>,
     table: &str,
-    place: TilePlace,
+    place: &TilePlace,
     edition: &str,
     number: u32,
 ) -> Result<(), Fault>
     ensures { ChangesFor S.Store tx.old tx.new (HasBytes edition.now number)
-        (λ bytes p. record p { tiles = insert p.tiles (tile_at table.now place) bytes }) result }
+        (λ bytes p. record p { tiles = insert p.tiles (tile_at table.now place.now) bytes }) result }
 {
     let blob = blob_of_piece(tx, edition, number)?;
     give_tile(tx, table, place, blob)
@@ -66,13 +67,13 @@ pub fn put_tile_of_piece<S: Alter>(
     last_change: &str,
 ) -> Result<Outcome, Fault>
     ensures { LendsFor S.Store tx.old tx.new (HasBytes edition.now number)
-        (commands.Tile table.now place.zoom place.column place.row) last_change.now result }
+        (λ bytes. commands.Edit (pieces.Tile table.now place bytes)) last_change.now result }
 {
     let table = table.as_str();
-    if let Some(number) = tile_refusal(tx, table, place)? {
+    if let Some(number) = tile_refusal(tx, table, &place)? {
         return Ok(Outcome::refused(number));
     }
-    write_tile_of_piece(tx, table, place, edition.as_str(), number)?;
+    write_tile_of_piece(tx, table, &place, edition.as_str(), number)?;
     set_last_change(tx, table, last_change)?;
     Ok(Outcome::Done)
 }
@@ -107,7 +108,8 @@ pub fn put_media_of_piece<S: Alter>(
     last_change: &str,
 ) -> Result<Outcome, Fault>
     ensures { LendsFor S.Store tx.old tx.new (HasBytes edition.now number)
-        (commands.Media table.now id content_type.now) last_change.now result }
+        (λ bytes. commands.Edit (pieces.Media table.now id content_type.now bytes))
+        last_change.now result }
 {
     let table = table.as_str();
     if let Some(number) = plain_refusal(tx, table, PlainKind::Media)? {

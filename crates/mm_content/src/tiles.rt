@@ -2,12 +2,13 @@
 
 ghost use Rattle.std.specs.Prelude.{◌≡◌, pos, int_le, ◌||◌, None, option_map};
 ghost use Rattle.std.specs.FinMap.{get, contains_key, insert, remove};
-ghost use Rattle.mm_definitions.specs.Conditions.{own_reasons};
+ghost use Rattle.mm_definitions.specs.Conditions.{piece_reasons, tile_reasons};
 ghost use Rattle.mm_definitions.specs.Keys.{level};
 ghost use Rattle.mm_definitions.specs.Package.{Grid};
 ghost use Rattle.mm_definitions.specs.declared.commands.Command.TheVariants as commands;
+ghost use Rattle.mm_definitions.specs.declared.commands.Piece.TheVariants as pieces;
 ghost use Rattle.mm_blobs.specs.Entries.{with_tile, without_tile, tile_names};
-ghost use Rattle.mm_definitions.specs.Places.{tile_at, tile_reasons};
+ghost use Rattle.mm_definitions.specs.Places.{tile_at};
 ghost use Rattle.mm_store.specs.Handed.{Tells, Changes, FindsRefusal};
 ghost use Rattle.mm_layout.specs.Handed.{Lends};
 ghost use Rattle.mm_blobs.specs.Handed.{Names, Renames, Unnames, Gives};
@@ -16,6 +17,7 @@ use crate::kinds::pyramid_refusal;
 use mm_blobs::blobs::{keep, release_freed};
 use mm_blobs::entries::blob_of_tile;
 use mm_definitions::answers::{Fault, Outcome};
+use mm_definitions::bounded::Zoom;
 use mm_definitions::names::Name;
 use mm_definitions::places::TilePlace;
 use mm_definitions::refusals::Reason;
@@ -27,7 +29,7 @@ use sqlite::{Alter, Transaction, params};
 fn sides_at<S: Alter>(
     tx: &mut Transaction<'_, S>,
     table: &str,
-    zoom: u8,
+    zoom: Zoom,
 ) -> Result<Option<(i64, i64)>, Fault>
     ensures { Tells S.Store tx.old tx.new (λ p. option_map
         (λ (g : Grid). (g.matrix_width, g.matrix_height))
@@ -36,7 +38,7 @@ fn sides_at<S: Alter>(
     first_pair(
         tx,
         "SELECT matrix_width, matrix_height FROM gpkg_tile_matrix WHERE table_name = ?1 AND zoom_level = ?2 LIMIT 1",
-        params![table, u32::from(zoom)],
+        params![table, u32::from(zoom.get())],
     )
 }
 
@@ -52,7 +54,12 @@ fn has_tile<S: Alter>(
     exists(
         tx,
         "SELECT 1 FROM mm_tiles WHERE table_name = ?1 AND zoom_level = ?2 AND tile_column = ?3 AND tile_row = ?4 LIMIT 1",
-        params![table, u32::from(place.zoom), place.column, place.row],
+        params![
+            table,
+            u32::from(place.zoom.get()),
+            place.column.get(),
+            place.row.get()
+        ],
     )
 }
 
@@ -69,7 +76,13 @@ fn insert_tile<S: Alter>(
     run(
         tx,
         "INSERT INTO mm_tiles (table_name, zoom_level, tile_column, tile_row, blob) VALUES (?1, ?2, ?3, ?4, ?5)",
-        params![table, u32::from(place.zoom), place.column, place.row, blob],
+        params![
+            table,
+            u32::from(place.zoom.get()),
+            place.column.get(),
+            place.row.get(),
+            blob
+        ],
     )
 }
 
@@ -86,7 +99,13 @@ fn update_tile<S: Alter>(
     run(
         tx,
         "UPDATE mm_tiles SET blob = ?5 WHERE table_name = ?1 AND zoom_level = ?2 AND tile_column = ?3 AND tile_row = ?4",
-        params![table, u32::from(place.zoom), place.column, place.row, blob],
+        params![
+            table,
+            u32::from(place.zoom.get()),
+            place.column.get(),
+            place.row.get(),
+            blob
+        ],
     )
 }
 
@@ -112,14 +131,14 @@ fn name_tile<S: Alter>(
 pub(crate) fn give_tile<S: Alter>(
     tx: &mut Transaction<'_, S>,
     table: &str,
-    place: TilePlace,
+    place: &TilePlace,
     blob: i64,
 ) -> Result<(), Fault>
     ensures { Gives S.Store tx.old tx.new blob
-        (λ bytes p. record p { tiles = insert p.tiles (tile_at table.now place) bytes }) result }
+        (λ bytes p. record p { tiles = insert p.tiles (tile_at table.now place.now) bytes }) result }
 {
-    let stands = blob_of_tile(tx, table, place)?;
-    name_tile(tx, table, place, blob, stands)?;
+    let stands = blob_of_tile(tx, table, *place)?;
+    name_tile(tx, table, *place, blob, stands)?;
     release_freed(tx, stands)
 }
 
@@ -128,11 +147,11 @@ pub(crate) fn give_tile<S: Alter>(
 fn write_tile<S: Alter>(
     tx: &mut Transaction<'_, S>,
     table: &str,
-    place: TilePlace,
+    place: &TilePlace,
     bytes: &[u8],
 ) -> Result<(), Fault>
     ensures { Changes S.Store tx.old tx.new
-        (λ p. record p { tiles = insert p.tiles (tile_at table.now place) bytes.now }) result }
+        (λ p. record p { tiles = insert p.tiles (tile_at table.now place.now) bytes.now }) result }
 {
     if bytes.is_empty() {
         return Err(Fault::STORE);
@@ -153,7 +172,12 @@ fn delete_tile_row<S: Alter>(
     run(
         tx,
         "DELETE FROM mm_tiles WHERE table_name = ?1 AND zoom_level = ?2 AND tile_column = ?3 AND tile_row = ?4",
-        params![table, u32::from(place.zoom), place.column, place.row],
+        params![
+            table,
+            u32::from(place.zoom.get()),
+            place.column.get(),
+            place.row.get()
+        ],
     )
 }
 
@@ -161,30 +185,30 @@ fn delete_tile_row<S: Alter>(
 fn delete_tile<S: Alter>(
     tx: &mut Transaction<'_, S>,
     table: &str,
-    place: TilePlace,
+    place: &TilePlace,
 ) -> Result<(), Fault>
     ensures { Changes S.Store tx.old tx.new
-        (λ p. record p { tiles = remove p.tiles (tile_at table.now place) }) result }
+        (λ p. record p { tiles = remove p.tiles (tile_at table.now place.now) }) result }
 {
-    let stands = blob_of_tile(tx, table, place)?;
-    delete_tile_row(tx, table, place)?;
+    let stands = blob_of_tile(tx, table, *place)?;
+    delete_tile_row(tx, table, *place)?;
     release_freed(tx, stands)
 }
 
 /// Whether a place is outside a matrix of this width and height.
-fn is_outside(width: i64, height: i64, column: u32, row: u32) -> bool
-    ensures { result ≡ (int_le width (pos column) || int_le height (pos row)) }
+fn is_outside(width: i64, height: i64, place: TilePlace) -> bool
+    ensures { result ≡ (int_le width (pos place.column) || int_le height (pos place.row)) }
 {
-    width <= i64::from(column) || height <= i64::from(row)
+    width <= i64::from(place.column.get()) || height <= i64::from(place.row.get())
 }
 
 /// Why a tile is not put, if it is not.
 pub(crate) fn tile_refusal<S: Alter>(
     tx: &mut Transaction<'_, S>,
     table: &str,
-    place: TilePlace,
+    place: &TilePlace,
 ) -> Result<Option<Reason>, Fault>
-    ensures { FindsRefusal S.Store tx.old tx.new (tile_reasons table.now place) result }
+    ensures { FindsRefusal S.Store tx.old tx.new (tile_reasons table.now place.now) result }
 {
     if let Some(number) = pyramid_refusal(tx, table)? {
         return Ok(Some(number));
@@ -192,7 +216,7 @@ pub(crate) fn tile_refusal<S: Alter>(
     let Some((width, height)) = sides_at(tx, table, place.zoom)? else {
         return Ok(Some(Reason::NO_MATRIX));
     };
-    if is_outside(width, height, place.column, place.row) {
+    if is_outside(width, height, *place) {
         Ok(Some(Reason::OUTSIDE_MATRIX))
     } else {
         Ok(None)
@@ -210,14 +234,14 @@ pub fn put_tile<S: Alter>(
     bytes: &[u8],
     last_change: &str,
 ) -> Result<Outcome, Fault>
-    ensures { Lends S.Store tx.old tx.new (commands.Tile table.now place.zoom place.column
-        place.row bytes.now) last_change.now result }
+    ensures { Lends S.Store tx.old tx.new (commands.Edit (pieces.Tile table.now place bytes.now))
+        last_change.now result }
 {
     let table = table.as_str();
-    if let Some(number) = tile_refusal(tx, table, place)? {
+    if let Some(number) = tile_refusal(tx, table, &place)? {
         return Ok(Outcome::refused(number));
     }
-    write_tile(tx, table, place, bytes)?;
+    write_tile(tx, table, &place, bytes)?;
     set_last_change(tx, table, last_change)?;
     Ok(Outcome::Done)
 }
@@ -226,16 +250,16 @@ pub fn put_tile<S: Alter>(
 fn tile_drop_refusal<S: Alter>(
     tx: &mut Transaction<'_, S>,
     table: &str,
-    place: TilePlace,
+    place: &TilePlace,
 ) -> Result<Option<Reason>, Fault>
     ensures { FindsRefusal S.Store tx.old tx.new
-        (λ p. own_reasons p (commands.TileDrop table.now place.zoom place.column place.row))
+        (λ p. piece_reasons p (pieces.TileDrop table.now place.now))
         result }
 {
     if let Some(number) = pyramid_refusal(tx, table)? {
         return Ok(Some(number));
     }
-    if has_tile(tx, table, place)? {
+    if has_tile(tx, table, *place)? {
         Ok(None)
     } else {
         Ok(Some(Reason::NO_TILE))
@@ -251,14 +275,14 @@ pub fn drop_tile<S: Alter>(
     place: TilePlace,
     last_change: &str,
 ) -> Result<Outcome, Fault>
-    ensures { Lends S.Store tx.old tx.new (commands.TileDrop table.now place.zoom
-        place.column place.row) last_change.now result }
+    ensures { Lends S.Store tx.old tx.new (commands.Edit (pieces.TileDrop table.now place))
+        last_change.now result }
 {
     let table = table.as_str();
-    if let Some(number) = tile_drop_refusal(tx, table, place)? {
+    if let Some(number) = tile_drop_refusal(tx, table, &place)? {
         return Ok(Outcome::refused(number));
     }
-    delete_tile(tx, table, place)?;
+    delete_tile(tx, table, &place)?;
     set_last_change(tx, table, last_change)?;
     Ok(Outcome::Done)
 }

@@ -44,8 +44,7 @@ module _ {S : Type 0} (g : Ghosts S) (was now : Held S) (begun : now ≡ record 
   put : (p : Package) → IsSeenFor old p → ComesTo current (state g now) (ground_of old) p
   put p it = record {
     meets = it.meets;
-    inside = rw begun
-        (record { mode = refl; back = λ is_open. (refl, is_open); reads = it.seen.reads });
+    inside = rw begun (record { mode = refl; back = λ is_open. (refl, is_open); reads = it.seen.reads });
   }
 
   module _ (is : result ≡ Ok Done) where

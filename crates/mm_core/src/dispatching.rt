@@ -1,16 +1,17 @@
 //! Which function does which command.
 
 ghost use Rattle.std.specs.Prelude.{◌≡◌, false, true};
-ghost use Rattle.mm_definitions.specs.CommandGroups.{is_layout_change, lays_out_pyramid, is_tile_change, is_item_change, is_relation_change, prepares_edition, rehearses};
+ghost use Rattle.mm_definitions.specs.CommandGroups.{is_layout_change, lays_out_pyramid, is_relation_change, prepares_edition, rehearses};
+ghost use Rattle.mm_definitions.specs.PieceGroups.{changes_tile, changes_item, changes_mapping};
+ghost use Rattle.mm_definitions.specs.declared.commands.Command.TheVariants as commands;
 ghost use Rattle.mm_store.specs.Handed.{Applies};
 ghost use Rattle.mm_layout.specs.Handed.{Lends};
 ghost use Rattle.mm_core.specs.Handed.{TriesCommand};
 
 use mm_content::{drop_media, drop_row, drop_tile, put_media, put_row, put_tile};
 use mm_definitions::answers::{Fault, Outcome};
-use mm_definitions::commands::Command;
+use mm_definitions::commands::{Command, Piece};
 use mm_definitions::extents::Bounds;
-use mm_definitions::places::TilePlace;
 use mm_edition::{discard, open_edition, publish, stage};
 use mm_meta::{add_matrix, add_pyramid, add_srs, add_table, drop_table};
 use mm_relate::{add_map, add_relation, drop_map, drop_relation};
@@ -52,7 +53,7 @@ fn lay_out<S: Alter>(
     }
 }
 
-/// The commands that lay out pyramids and their matrices.
+/// The command that lays out a pyramid.
 fn lay_out_pyramid<S: Alter>(
     tx: &mut Transaction<'_, S>,
     command: &Command,
@@ -85,72 +86,41 @@ fn lay_out_pyramid<S: Alter>(
             *step,
             last_change,
         ),
-        Command::Matrix {
-            table,
-            zoom,
-            matrix,
-        } => add_matrix(tx, table, zoom.get(), matrix, last_change),
         _ => unreachable!(),
     }
 }
 
-/// The commands that put and remove tiles.
+/// The pieces that put and remove tiles.
 fn change_tile<S: Alter>(
     tx: &mut Transaction<'_, S>,
-    command: &Command,
+    piece: &Piece,
     last_change: &str,
 ) -> Result<Outcome, Fault>
-    requires { is_tile_change command.now ≡ true }
-    ensures { Lends S.Store tx.old tx.new command.now last_change.now result }
+    requires { changes_tile piece.now ≡ true }
+    ensures { Lends S.Store tx.old tx.new (commands.Edit piece.now) last_change.now result }
 {
-    match command {
-        Command::Tile {
+    match piece {
+        Piece::Tile {
             table,
-            zoom,
-            column,
-            row,
+            place,
             bytes,
-        } => put_tile(
-            tx,
-            table,
-            TilePlace {
-                zoom: zoom.get(),
-                column: column.get(),
-                row: row.get(),
-            },
-            bytes.as_slice(),
-            last_change,
-        ),
-        Command::TileDrop {
-            table,
-            zoom,
-            column,
-            row,
-        } => drop_tile(
-            tx,
-            table,
-            TilePlace {
-                zoom: zoom.get(),
-                column: column.get(),
-                row: row.get(),
-            },
-            last_change,
-        ),
+        } => put_tile(tx, table, *place, bytes.as_slice(), last_change),
+        Piece::TileDrop { table, place } => drop_tile(tx, table, *place, last_change),
         _ => unreachable!(),
     }
 }
 
-/// The commands that put and remove attribute rows and media.
+/// The pieces that put and remove attribute rows and media.
 fn change_item<S: Alter>(
     tx: &mut Transaction<'_, S>,
-    command: &Command,
+    piece: &Piece,
     last_change: &str,
 ) -> Result<Outcome, Fault>
-    requires { is_item_change command.now ≡ true }
-    ensures { Lends S.Store tx.old tx.new command.now last_change.now result }
+    requires { changes_item piece.now ≡ true }
+    ensures { Lends S.Store tx.old tx.new (commands.Edit piece.now) last_change.now result }
 {
-    match command {
-        Command::Row {
+    match piece {
+        Piece::Row {
             table,
             id,
             title,
@@ -165,8 +135,8 @@ fn change_item<S: Alter>(
             amount.get(),
             last_change,
         ),
-        Command::RowDrop { table, id } => drop_row(tx, table, id.get(), last_change),
-        Command::Media {
+        Piece::RowDrop { table, id } => drop_row(tx, table, id.get(), last_change),
+        Piece::Media {
             table,
             id,
             content_type,
@@ -179,12 +149,53 @@ fn change_item<S: Alter>(
             bytes.as_slice(),
             last_change,
         ),
-        Command::MediaDrop { table, id } => drop_media(tx, table, id.get(), last_change),
+        Piece::MediaDrop { table, id } => drop_media(tx, table, id.get(), last_change),
         _ => unreachable!(),
     }
 }
 
-/// The commands that relate rows and media to each other.
+/// The pieces that put and remove mapping rows.
+fn change_mapping<S: Alter>(tx: &mut Transaction<'_, S>, piece: &Piece) -> Result<Outcome, Fault>
+    requires { changes_mapping piece.now ≡ true }
+    ensures { Applies S.Store tx.old tx.new (commands.Edit piece.now) result }
+{
+    match piece {
+        Piece::Map {
+            mapping,
+            base_id,
+            related_id,
+        } => add_map(tx, mapping, base_id.get(), related_id.get()),
+        Piece::MapDrop {
+            mapping,
+            base_id,
+            related_id,
+        } => drop_map(tx, mapping, base_id.get(), related_id.get()),
+        _ => unreachable!(),
+    }
+}
+
+/// What an edition may hold, done at once.
+fn edit<S: Alter>(
+    tx: &mut Transaction<'_, S>,
+    piece: &Piece,
+    last_change: &str,
+) -> Result<Outcome, Fault>
+    ensures { TriesCommand S.Store tx.old tx.new (commands.Edit piece.now) last_change.now result }
+{
+    match piece {
+        Piece::Tile { .. } | Piece::TileDrop { .. } => change_tile(tx, piece, last_change),
+        Piece::Row { .. } | Piece::RowDrop { .. } | Piece::Media { .. } | Piece::MediaDrop { .. } =>
+            change_item(tx, piece, last_change),
+        Piece::Map { .. } | Piece::MapDrop { .. } => change_mapping(tx, piece),
+        Piece::Matrix {
+            table,
+            zoom,
+            matrix,
+        } => add_matrix(tx, table, zoom.get(), matrix, last_change),
+    }
+}
+
+/// The commands that put and remove relations.
 fn relate<S: Alter>(tx: &mut Transaction<'_, S>, command: &Command) -> Result<Outcome, Fault>
     requires { is_relation_change command.now ≡ true }
     ensures { Applies S.Store tx.old tx.new command.now result }
@@ -197,16 +208,6 @@ fn relate<S: Alter>(tx: &mut Transaction<'_, S>, command: &Command) -> Result<Ou
             name,
         } => add_relation(tx, mapping, base, related, *name),
         Command::RelationDrop { mapping } => drop_relation(tx, mapping),
-        Command::Map {
-            mapping,
-            base_id,
-            related_id,
-        } => add_map(tx, mapping, base_id.get(), related_id.get()),
-        Command::MapDrop {
-            mapping,
-            base_id,
-            related_id,
-        } => drop_map(tx, mapping, base_id.get(), related_id.get()),
         _ => unreachable!(),
     }
 }
@@ -244,20 +245,9 @@ pub(crate) fn run_command<S: Alter>(
         Command::Srs { .. } | Command::Table { .. } | Command::Drop { .. } => {
             lay_out(tx, command, last_change)
         }
-        Command::Pyramid { .. } | Command::Matrix { .. } => lay_out_pyramid(
-            tx,
-            command,
-            last_change,
-        ),
-        Command::Tile { .. } | Command::TileDrop { .. } => change_tile(tx, command, last_change),
-        Command::Row { .. }
-        | Command::RowDrop { .. }
-        | Command::Media { .. }
-        | Command::MediaDrop { .. } => change_item(tx, command, last_change),
-        Command::Relation { .. }
-        | Command::RelationDrop { .. }
-        | Command::Map { .. }
-        | Command::MapDrop { .. } => relate(tx, command),
+        Command::Pyramid { .. } => lay_out_pyramid(tx, command, last_change),
+        Command::Edit(piece) => edit(tx, piece, last_change),
+        Command::Relation { .. } | Command::RelationDrop { .. } => relate(tx, command),
         Command::Edition { .. } | Command::Discard { .. } | Command::Stage { .. } => {
             prepare_edition(tx, command)
         }

@@ -22,8 +22,7 @@ start = record {
   day = 1;
   year_in = search rules;
   month_in = search rules;
-  day_in = search
-      rules;
+  day_in = search rules;
 }
 
 from_1970 : (d : Date) → pos 0 ≤ℤ epoch_day d → pos 1970 ≤ℤ d.year

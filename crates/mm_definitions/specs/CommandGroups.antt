@@ -10,32 +10,15 @@ is_layout_change (commands.Table table kind identifier) = true
 is_layout_change (commands.Drop table) = true
 is_layout_change _ = false
 
--- it changes pyramids or matrices
+-- it lays out a pyramid
 abbrev pub lays_out_pyramid : Command → Bool
 lays_out_pyramid (commands.Pyramid table identifier srs min_x min_y max_x max_y step) = true
-lays_out_pyramid (commands.Matrix table zoom matrix) = true
 lays_out_pyramid _ = false
 
--- it changes a tile
-abbrev pub is_tile_change : Command → Bool
-is_tile_change (commands.Tile table zoom column row bytes) = true
-is_tile_change (commands.TileDrop table zoom column row) = true
-is_tile_change _ = false
-
--- it changes an attribute row or a media row
-abbrev pub is_item_change : Command → Bool
-is_item_change (commands.Row table id title note amount) = true
-is_item_change (commands.RowDrop table id) = true
-is_item_change (commands.Media table id content_type bytes) = true
-is_item_change (commands.MediaDrop table id) = true
-is_item_change _ = false
-
--- it changes relations or mapping rows
+-- it changes relations
 abbrev pub is_relation_change : Command → Bool
 is_relation_change (commands.Relation mapping base related name) = true
 is_relation_change (commands.RelationDrop mapping) = true
-is_relation_change (commands.Map mapping base_id related_id) = true
-is_relation_change (commands.MapDrop mapping base_id related_id) = true
 is_relation_change _ = false
 
 -- it changes an edition that is not published yet, and no content

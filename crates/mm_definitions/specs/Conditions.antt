@@ -2,9 +2,10 @@
 use Rattle.std.specs.Prelude.{ℕ, ◌+◌, length, ◌==◌, ℤ, pos, ◌+ℤ◌, ◌-ℤ◌, ◌*ℤ◌, Bool, not, cond, ◌&&◌, ◌||◌, List, []}
 use Rattle.std.specs.Prelude.{◌∷◌, Option, Some, None, min, int_lt, int_le, codes}
 use Rattle.std.specs.FinMap.{get, contains_key, entries, retain_keys}
-use Rattle.mm_definitions.specs.Keys.{Text, same_text, same_number, level, tile, item, Pairing, pairing, PieceKey}
+use Rattle.mm_definitions.specs.Keys.{Text, same_text, same_number, level, item, Pairing, pairing, PieceKey}
 use Rattle.mm_definitions.specs.Keys.{piece}
 use Rattle.mm_definitions.specs.Parts.{some_entry, at_value}
+use Rattle.mm_definitions.specs.Places.{tile_at}
 use Rattle.mm_definitions.specs.Pieces.{piece_row, same_piece}
 use Rattle.mm_definitions.specs.Bounds.{MostPieces}
 use Rattle.mm_definitions.specs.Package.{Package, Box, Grid, PieceRow, has_kind, is_pyramid, open_state}
@@ -19,6 +20,7 @@ use Rattle.mm_definitions.specs.declared.commands.Command.TheVariants as command
 use Rattle.mm_definitions.specs.declared.commands.Piece.TheVariants as pieces
 use Rattle.mm_definitions.specs.declared.commands.Piece.TheVariants.{Tile, TileDrop, Row, RowDrop, Media, MediaDrop}
 use Rattle.mm_definitions.specs.declared.commands.Piece.TheVariants.{Map, MapDrop}
+use Rattle.mm_definitions.specs.declared.places.TilePlace.{TilePlace}
 use Rattle.mm_definitions.specs.declared.refusals.TheConstants.{SYSTEM_EXISTS, NO_SYSTEM, GEOGRAPHIC_SYSTEM}
 use Rattle.mm_definitions.specs.declared.refusals.TheConstants.{TABLE_NAME_TAKEN, IDENTIFIER_TAKEN, NO_TABLE}
 use Rattle.mm_definitions.specs.declared.refusals.TheConstants.{ANOTHER_KIND, EMPTY_EXTENT, MATRIX_EXISTS}
@@ -119,13 +121,16 @@ clashes p table zoom g = some_entry
 -- ---- pieces
 -- the numbers that may hold against a piece of an edition, each with whether it does
 abbrev pub piece_reasons : Package → Piece → Reasons
-piece_reasons p (Tile table zoom column row bytes) =
+piece_reasons p (Tile table place bytes) =
     no_table p table ∷ of_another_kind p table (is_pyramid p.kinds table)
-    ∷ (NO_MATRIX, is_pyramid p.kinds table && not (contains_key p.matrices (level table (pos zoom))))
-    ∷ (OUTSIDE_MATRIX, at_value (outside (pos column) (pos row)) (get p.matrices (level table (pos zoom)))) ∷ []
-piece_reasons p (TileDrop table zoom column row) =
+    ∷ (NO_MATRIX, is_pyramid p.kinds table && not (contains_key p.matrices (level table (pos place.zoom))))
+    ∷ (
+      OUTSIDE_MATRIX,
+      at_value (outside (pos place.column) (pos place.row)) (get p.matrices (level table (pos place.zoom))),
+    ) ∷ []
+piece_reasons p (TileDrop table place) =
     no_table p table ∷ of_another_kind p table (is_pyramid p.kinds table)
-    ∷ (NO_TILE, is_pyramid p.kinds table && not (contains_key p.tiles (tile table (pos zoom) (pos column) (pos row))))
+    ∷ (NO_TILE, is_pyramid p.kinds table && not (contains_key p.tiles (tile_at table place)))
     ∷ []
 piece_reasons p (Row table id title note amount) =
     no_table p table ∷ of_another_kind p table (has_kind p.kinds table kinds.Attributes) ∷ []
@@ -219,7 +224,6 @@ own_reasons p (commands.Pyramid table identifier srs min_x min_y max_x max_y ste
     ∷ (TABLE_NAME_TAKEN, is_taken p table)
     ∷ (IDENTIFIER_TAKEN, is_identified p identifier)
     ∷ (EMPTY_EXTENT, int_le max_x min_x || int_le max_y min_y) ∷ []
-own_reasons p (commands.Matrix table zoom matrix) = piece_reasons p (pieces.Matrix table zoom matrix)
 own_reasons p (commands.Table table kind identifier) =
     (TABLE_NAME_TAKEN, is_taken p table) ∷ (IDENTIFIER_TAKEN, is_identified p identifier) ∷ []
 own_reasons p (commands.Drop table) =
@@ -258,11 +262,8 @@ own_reasons p (commands.Publish edition) =
 own_reasons p (commands.Rehearse edition) =
     (NO_EDITION, not (contains_key p.editions edition))
     ∷ (PUBLISHED_ALREADY, contains_key p.editions edition && not (is_open p edition)) ∷ []
-own_reasons p (commands.Tile table zoom column row bytes) = piece_reasons p (Tile table zoom column row bytes)
-own_reasons p (commands.TileDrop table zoom column row) = piece_reasons p (TileDrop table zoom column row)
-own_reasons p (commands.Row table id title note amount) = piece_reasons p (Row table id title note amount)
-own_reasons p (commands.RowDrop table id) = piece_reasons p (RowDrop table id)
-own_reasons p (commands.Media table id content_type bytes) = piece_reasons p (Media table id content_type bytes)
-own_reasons p (commands.MediaDrop table id) = piece_reasons p (MediaDrop table id)
-own_reasons p (commands.Map mapping base_id related_id) = piece_reasons p (Map mapping base_id related_id)
-own_reasons p (commands.MapDrop mapping base_id related_id) = piece_reasons p (MapDrop mapping base_id related_id)
+own_reasons p (commands.Edit q) = piece_reasons p q
+
+-- for what a tile is not put at a place, whatever its bytes are
+abbrev pub tile_reasons : Text → TilePlace → Package → Reasons
+tile_reasons table place p = piece_reasons p (Tile table place [])

@@ -42,6 +42,5 @@ edition_trial p edition stamp = trial (pieces_of p edition) p stamp
 abbrev pub closed : Text → Package → Package
 closed edition p = record p {
   editions = insert p.editions edition published_state;
-  pieces = retain_keys p.pieces
-      (λ k. is_other edition k.edition);
+  pieces = retain_keys p.pieces (λ k. is_other edition k.edition);
 }

@@ -1,10 +1,11 @@
 -- What an accepted command puts and removes.
 use Rattle.std.specs.Prelude.{ℤ, pos, Bool, not, [], Option, Some, None, codes}
 use Rattle.std.specs.FinMap.{get, insert, remove, retain_keys}
-use Rattle.mm_definitions.specs.Keys.{Text, same_text, level, tile, item, pairing, piece}
+use Rattle.mm_definitions.specs.Keys.{Text, same_text, level, item, pairing, piece}
 use Rattle.mm_definitions.specs.Package.{Package, Contents, Box, kind_text, mapping_extension, zoom_extension}
 use Rattle.mm_definitions.specs.Package.{open_state}
 use Rattle.mm_definitions.specs.Pieces.{piece_row}
+use Rattle.mm_definitions.specs.Places.{tile_at}
 use Rattle.mm_definitions.specs.Conditions.{grid, relation_text}
 use Rattle.mm_definitions.specs.declared.commands.Step.{Step}
 use Rattle.mm_definitions.specs.declared.commands.Step.TheVariants as steps
@@ -35,10 +36,10 @@ touch p table stamp = touched_row p table stamp (get p.contents table)
 -- ---- by the pieces of an edition
 -- the package after a piece took effect; what is put or removed in a table is stamped there, and a mapping row in none
 abbrev pub piece_effect : Package → Piece → Text → Package
-piece_effect p (Tile table zoom column row bytes) stamp =
-    touch (record p { tiles = insert p.tiles (tile table (pos zoom) (pos column) (pos row)) bytes }) table stamp
-piece_effect p (TileDrop table zoom column row) stamp =
-    touch (record p { tiles = remove p.tiles (tile table (pos zoom) (pos column) (pos row)) }) table stamp
+piece_effect p (Tile table place bytes) stamp =
+    touch (record p { tiles = insert p.tiles (tile_at table place) bytes }) table stamp
+piece_effect p (TileDrop table place) stamp =
+    touch (record p { tiles = remove p.tiles (tile_at table place) }) table stamp
 piece_effect p (Row table id title note amount) stamp =
     touch (record p { rows = insert p.rows (item table id) (record { title = title; note = note; amount = amount }) })
     table stamp
@@ -114,8 +115,7 @@ effect p (commands.Srs id name organization organization_id definition descripti
       systems = insert p.systems id (record {
         name = name;
         organization = organization;
-        organization_id =
-            organization_id;
+        organization_id = organization_id;
         definition = definition;
         description = description;
       });
@@ -123,7 +123,6 @@ effect p (commands.Srs id name organization organization_id definition descripti
 effect p (commands.Pyramid table identifier srs min_x min_y max_x max_y step) stamp =
     with_zoom_row (with_pyramid p table identifier srs
     (record { min_x = min_x; min_y = min_y; max_x = max_x; max_y = max_y }) step stamp) table step
-effect p (commands.Matrix table zoom matrix) stamp = piece_effect p (pieces.Matrix table zoom matrix) stamp
 effect p (commands.Table table kind identifier) stamp =
     record p {
       contents = insert p.contents table (record {
@@ -164,11 +163,4 @@ effect p (commands.Stage edition number q) stamp =
     record p { pieces = insert p.pieces (piece edition number) (piece_row q) }
 effect p (commands.Publish edition) stamp = p
 effect p (commands.Rehearse edition) stamp = p
-effect p (commands.Tile table zoom column row bytes) stamp = piece_effect p (Tile table zoom column row bytes) stamp
-effect p (commands.TileDrop table zoom column row) stamp = piece_effect p (TileDrop table zoom column row) stamp
-effect p (commands.Row table id title note amount) stamp = piece_effect p (Row table id title note amount) stamp
-effect p (commands.RowDrop table id) stamp = piece_effect p (RowDrop table id) stamp
-effect p (commands.Media table id content_type bytes) stamp = piece_effect p (Media table id content_type bytes) stamp
-effect p (commands.MediaDrop table id) stamp = piece_effect p (MediaDrop table id) stamp
-effect p (commands.Map mapping base_id related_id) stamp = piece_effect p (Map mapping base_id related_id) stamp
-effect p (commands.MapDrop mapping base_id related_id) stamp = piece_effect p (MapDrop mapping base_id related_id) stamp
+effect p (commands.Edit q) stamp = piece_effect p q stamp

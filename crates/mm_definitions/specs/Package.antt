@@ -183,8 +183,7 @@ abbrev pub general_extension : Extension
 general_extension = record {
   table = Some (codes "gpkgext_relations");
   column = None;
-  name =
-      codes "gpkg_related_tables";
+  name = codes "gpkg_related_tables";
   definition = codes "OGC 18-000";
   scope = codes "read-write";
 }
@@ -204,8 +203,7 @@ abbrev pub zoom_extension : Text → Extension
 zoom_extension table = record {
   table = Some table;
   column = Some (codes "tile_data");
-  name =
-      codes "gpkg_zoom_other";
+  name = codes "gpkg_zoom_other";
   definition = codes "OGC 12-128r17";
   scope = codes "read-write";
 }

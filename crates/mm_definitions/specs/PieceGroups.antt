@@ -6,8 +6,8 @@ use Rattle.mm_definitions.specs.declared.commands.Piece.TheVariants.{Map, MapDro
 
 -- it changes a tile
 abbrev pub changes_tile : Piece → Bool
-changes_tile (Tile table zoom column row bytes) = true
-changes_tile (TileDrop table zoom column row) = true
+changes_tile (Tile table place bytes) = true
+changes_tile (TileDrop table place) = true
 changes_tile _ = false
 
 -- it changes an attribute row or a medium

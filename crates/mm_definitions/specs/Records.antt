@@ -17,6 +17,7 @@ use Rattle.mm_definitions.specs.declared.commands.Piece.TheVariants.{Tile, TileD
 use Rattle.mm_definitions.specs.declared.commands.Piece.TheVariants.{Map, MapDrop}
 use Rattle.mm_definitions.specs.declared.commands.Command.{Command}
 use Rattle.mm_definitions.specs.declared.commands.Command.TheVariants as commands
+use Rattle.mm_definitions.specs.declared.places.TilePlace.{TilePlace}
 
 -- ---- the records of pieces, without the word that they begin with
 -- the number of a row, a medium or a piece
@@ -183,8 +184,8 @@ record_form profile (word ∷ texts) = if bytes_eq word (codes "stage") then sta
 -- ---- the record that a command is spelled by
 -- the word that the record of a piece begins with
 abbrev pub piece_word : Piece → Text
-piece_word (Tile table zoom column row bytes) = codes "tile"
-piece_word (TileDrop table zoom column row) = codes "tile-drop"
+piece_word (Tile table place bytes) = codes "tile"
+piece_word (TileDrop table place) = codes "tile-drop"
 piece_word (Row table id title note amount) = codes "row"
 piece_word (RowDrop table id) = codes "row-drop"
 piece_word (Media table id content_type bytes) = codes "media"
@@ -198,12 +199,14 @@ abbrev pub matrix_values : Matrix → List Value
 matrix_values m = Whole (pos m.mw) ∷ Whole (pos m.mh) ∷ Whole (pos m.tw) ∷ Whole (pos m.th) ∷ Whole m.px ∷ Whole m.py
     ∷ []
 
+-- the three numbers of a place, in the order of its records
+abbrev pub place_values : TilePlace → List Value
+place_values place = Whole (pos place.zoom) ∷ Whole (pos place.column) ∷ Whole (pos place.row) ∷ []
+
 -- the values of a piece's fields after its word
 abbrev pub piece_values : Piece → List Value
-piece_values (Tile table zoom column row bytes) = Plain table ∷ Whole (pos zoom) ∷ Whole (pos column) ∷ Whole (pos row)
-    ∷ Plain bytes ∷ []
-piece_values (TileDrop table zoom column row) = Plain table ∷ Whole (pos zoom) ∷ Whole (pos column) ∷ Whole (pos row)
-    ∷ []
+piece_values (Tile table place bytes) = Plain table ∷ place_values place ++ Plain bytes ∷ []
+piece_values (TileDrop table place) = Plain table ∷ place_values place
 piece_values (Row table id title note amount) = Plain table ∷ Whole id ∷ Plain title ∷ Plain note ∷ Whole amount ∷ []
 piece_values (RowDrop table id) = Plain table ∷ Whole id ∷ []
 piece_values (Media table id content_type bytes) = Plain table ∷ Whole id ∷ Plain content_type ∷ Plain bytes ∷ []
@@ -216,19 +219,11 @@ piece_values (pieces.Matrix table zoom matrix) = Plain table ∷ Whole (pos zoom
 abbrev pub command_word : Command → Text
 command_word (commands.Srs id name organization organization_id definition description) = codes "srs"
 command_word (commands.Pyramid table identifier srs min_x min_y max_x max_y step) = codes "pyramid"
-command_word (commands.Matrix table zoom matrix) = piece_word (pieces.Matrix table zoom matrix)
 command_word (commands.Table table kind identifier) = codes "table"
 command_word (commands.Drop table) = codes "drop"
-command_word (commands.Tile table zoom column row bytes) = piece_word (Tile table zoom column row bytes)
-command_word (commands.TileDrop table zoom column row) = piece_word (TileDrop table zoom column row)
-command_word (commands.Row table id title note amount) = piece_word (Row table id title note amount)
-command_word (commands.RowDrop table id) = piece_word (RowDrop table id)
-command_word (commands.Media table id content_type bytes) = piece_word (Media table id content_type bytes)
-command_word (commands.MediaDrop table id) = piece_word (MediaDrop table id)
 command_word (commands.Relation mapping base related name) = codes "relation"
 command_word (commands.RelationDrop mapping) = codes "relation-drop"
-command_word (commands.Map mapping base_id related_id) = piece_word (Map mapping base_id related_id)
-command_word (commands.MapDrop mapping base_id related_id) = piece_word (MapDrop mapping base_id related_id)
+command_word (commands.Edit q) = piece_word q
 command_word (commands.Edition name) = codes "edition"
 command_word (commands.Discard name) = codes "discard"
 command_word (commands.Stage edition number piece) = codes "stage"
@@ -242,21 +237,13 @@ command_values (commands.Srs id name organization organization_id definition des
 command_values (commands.Pyramid table identifier srs min_x min_y max_x max_y step) =
     Plain table ∷ Plain identifier ∷ Whole srs ∷ Whole min_x ∷ Whole min_y ∷ Whole max_x ∷ Whole max_y
     ∷ Plain (kind_text (step_kind step)) ∷ []
-command_values (commands.Matrix table zoom matrix) = piece_values (pieces.Matrix table zoom matrix)
 command_values (commands.Table table kind identifier) = Plain table ∷ Plain (kind_text (plain_kind kind))
     ∷ Plain identifier ∷ []
 command_values (commands.Drop table) = Plain table ∷ []
-command_values (commands.Tile table zoom column row bytes) = piece_values (Tile table zoom column row bytes)
-command_values (commands.TileDrop table zoom column row) = piece_values (TileDrop table zoom column row)
-command_values (commands.Row table id title note amount) = piece_values (Row table id title note amount)
-command_values (commands.RowDrop table id) = piece_values (RowDrop table id)
-command_values (commands.Media table id content_type bytes) = piece_values (Media table id content_type bytes)
-command_values (commands.MediaDrop table id) = piece_values (MediaDrop table id)
 command_values (commands.Relation mapping base related name) = Plain mapping ∷ Plain base ∷ Plain related
     ∷ Plain (relation_text name) ∷ []
 command_values (commands.RelationDrop mapping) = Plain mapping ∷ []
-command_values (commands.Map mapping base_id related_id) = piece_values (Map mapping base_id related_id)
-command_values (commands.MapDrop mapping base_id related_id) = piece_values (MapDrop mapping base_id related_id)
+command_values (commands.Edit q) = piece_values q
 command_values (commands.Edition name) = Plain name ∷ []
 command_values (commands.Discard name) = Plain name ∷ []
 command_values (commands.Stage edition number piece) = Plain edition ∷ Whole number ∷ Plain (piece_word piece)

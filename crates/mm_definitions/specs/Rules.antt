@@ -36,8 +36,7 @@ abbrev pub undefined_cartesian : System
 undefined_cartesian = record {
   name = codes "Undefined Cartesian";
   organization = codes "NONE";
-  organization_id =
-      negsuc 0;
+  organization_id = negsuc 0;
   definition = codes "undefined";
   description = codes "undefined Cartesian coordinates";
 }
@@ -47,8 +46,7 @@ abbrev pub undefined_geographic : System
 undefined_geographic = record {
   name = codes "Undefined geographic";
   organization = codes "NONE";
-  organization_id =
-      pos 0;
+  organization_id = pos 0;
   definition = codes "undefined";
   description = codes "undefined geographic coordinates";
 }

@@ -10,6 +10,7 @@ use Rattle.mm_definitions.specs.declared.commands.Piece.TheVariants.{Tile, TileD
 use Rattle.mm_definitions.specs.declared.commands.Piece.TheVariants.{Map, MapDrop}
 use Rattle.mm_definitions.specs.declared.commands.Command.{Command}
 use Rattle.mm_definitions.specs.declared.commands.Command.TheVariants as commands
+use Rattle.mm_definitions.specs.declared.places.TilePlace.{TilePlace}
 
 -- the six numbers of a matrix are within their limits, the pixel sizes in the profile's unit
 pub record IsMatrixWithin (profile : Profile) (m : Matrix) : Type 0 where
@@ -20,12 +21,16 @@ pub record IsMatrixWithin (profile : Profile) (m : Matrix) : Type 0 where
   pub px : IsPixelSize profile m.px
   pub py : IsPixelSize profile m.py
 
+-- the zoom, the column and the row of a tile are within their limits
+pub record IsPlaceWithin (place : TilePlace) : Type 0 where
+  pub zoom : IsZoom (pos place.zoom)
+  pub column : IsTilePlace (pos place.column)
+  pub row : IsTilePlace (pos place.row)
+
 -- each field of a piece is within its limits
 abbrev pub IsPieceWithin : Profile → Piece → Type 0
-IsPieceWithin profile (Tile table zoom column row bytes) = IsName table × IsZoom (pos zoom) × IsTilePlace
-    (pos column) × IsTilePlace (pos row) × IsTileBytes bytes
-IsPieceWithin profile (TileDrop table zoom column row) = IsName table × IsZoom (pos zoom) × IsTilePlace (pos column)
-    × IsTilePlace (pos row)
+IsPieceWithin profile (Tile table place bytes) = IsName table × IsPlaceWithin place × IsTileBytes bytes
+IsPieceWithin profile (TileDrop table place) = IsName table × IsPlaceWithin place
 IsPieceWithin profile (Row table id title note amount) = IsName table × IsId id × IsRemark title × IsRemark note
     × IsAmount amount
 IsPieceWithin profile (RowDrop table id) = IsName table × IsId id
@@ -50,7 +55,6 @@ IsWithin profile (commands.Srs id name organization organization_id definition d
 IsWithin profile (commands.Pyramid table identifier srs min_x min_y max_x max_y step) =
     IsName table × IsIdentifier identifier × IsSystemNumber srs × IsCoordinate profile min_x
     × IsCoordinate profile min_y × IsCoordinate profile max_x × IsCoordinate profile max_y
-IsWithin profile (commands.Matrix table zoom matrix) = IsPieceWithin profile (pieces.Matrix table zoom matrix)
 IsWithin profile (commands.Table table kind identifier) = IsName table × IsIdentifier identifier
 IsWithin profile (commands.Drop table) = IsName table
 IsWithin profile (commands.Relation mapping base related name) = IsName mapping × IsName base × IsName related
@@ -61,13 +65,4 @@ IsWithin profile (commands.Stage edition number piece) = IsName edition × IsId 
     × Takes profile piece
 IsWithin profile (commands.Publish edition) = IsName edition
 IsWithin profile (commands.Rehearse edition) = IsName edition
-IsWithin profile (commands.Tile table zoom column row bytes) = IsPieceWithin profile (Tile table zoom column row bytes)
-IsWithin profile (commands.TileDrop table zoom column row) = IsPieceWithin profile (TileDrop table zoom column row)
-IsWithin profile (commands.Row table id title note amount) = IsPieceWithin profile (Row table id title note amount)
-IsWithin profile (commands.RowDrop table id) = IsPieceWithin profile (RowDrop table id)
-IsWithin profile (commands.Media table id content_type bytes) =
-    IsPieceWithin profile (Media table id content_type bytes)
-IsWithin profile (commands.MediaDrop table id) = IsPieceWithin profile (MediaDrop table id)
-IsWithin profile (commands.Map mapping base_id related_id) = IsPieceWithin profile (Map mapping base_id related_id)
-IsWithin profile (commands.MapDrop mapping base_id related_id) =
-    IsPieceWithin profile (MapDrop mapping base_id related_id)
+IsWithin profile (commands.Edit piece) = IsPieceWithin profile piece

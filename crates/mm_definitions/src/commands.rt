@@ -4,13 +4,12 @@ ghost use Rattle.std.specs.Prelude.{◌≡◌, ◌≢◌, MatchOption};
 ghost use Rattle.mm_definitions.specs.Package.{kind_text};
 ghost use Rattle.mm_definitions.specs.declared.commands.Kind.{Kind as KindValue};
 
-use crate::bounded::{
-    Amount, Coordinate, Id, MatrixSide, PixelSize, Place, SystemNumber, TileSide, Zoom,
-};
+use crate::bounded::{Amount, Coordinate, Id, MatrixSide, PixelSize, SystemNumber, TileSide, Zoom};
 use crate::bytes::{MediaBytes, TileBytes};
 use crate::content_types::ContentType;
 use crate::identifiers::Identifier;
 use crate::names::Name;
+use crate::places::TilePlace;
 use crate::texts::{Definition, Remark, SystemName};
 
 /// How the pixel sizes of the zooms of a pyramid go.
@@ -78,16 +77,12 @@ pub struct Matrix {
 pub enum Piece {
     Tile {
         table: Name,
-        zoom: Zoom,
-        column: Place,
-        row: Place,
+        place: TilePlace,
         bytes: TileBytes,
     },
     TileDrop {
         table: Name,
-        zoom: Zoom,
-        column: Place,
-        row: Place,
+        place: TilePlace,
     },
     Row {
         table: Name,
@@ -148,11 +143,6 @@ pub enum Command {
         max_y: Coordinate,
         step: Step,
     },
-    Matrix {
-        table: Name,
-        zoom: Zoom,
-        matrix: Matrix,
-    },
     Table {
         table: Name,
         kind: PlainKind,
@@ -161,40 +151,8 @@ pub enum Command {
     Drop {
         table: Name,
     },
-    Tile {
-        table: Name,
-        zoom: Zoom,
-        column: Place,
-        row: Place,
-        bytes: TileBytes,
-    },
-    TileDrop {
-        table: Name,
-        zoom: Zoom,
-        column: Place,
-        row: Place,
-    },
-    Row {
-        table: Name,
-        id: Id,
-        title: Remark,
-        note: Remark,
-        amount: Amount,
-    },
-    RowDrop {
-        table: Name,
-        id: Id,
-    },
-    Media {
-        table: Name,
-        id: Id,
-        content_type: ContentType,
-        bytes: MediaBytes,
-    },
-    MediaDrop {
-        table: Name,
-        id: Id,
-    },
+    /// What an edition may hold too, at once.
+    Edit(Piece),
     Relation {
         mapping: Name,
         base: Name,
@@ -203,16 +161,6 @@ pub enum Command {
     },
     RelationDrop {
         mapping: Name,
-    },
-    Map {
-        mapping: Name,
-        base_id: Id,
-        related_id: Id,
-    },
-    MapDrop {
-        mapping: Name,
-        base_id: Id,
-        related_id: Id,
     },
     Edition {
         name: Name,

@@ -2,11 +2,12 @@
 
 ghost use Rattle.std.specs.Prelude.{◌≡◌, true};
 ghost use Rattle.mm_definitions.specs.Bounds.{current};
-ghost use Rattle.mm_definitions.specs.CommandGroups.{is_layout_change, lays_out_pyramid, is_tile_change, is_item_change, is_relation_change, works_on_editions};
+ghost use Rattle.mm_definitions.specs.CommandGroups.{is_layout_change, lays_out_pyramid, is_relation_change, works_on_editions};
 ghost use Rattle.mm_definitions.specs.PieceGroups.{changes_tile, changes_item, changes_mapping};
-ghost use Rattle.mm_definitions.specs.Within.{IsWithin, IsPieceWithin, IsMatrixWithin};
+ghost use Rattle.mm_definitions.specs.Within.{IsWithin, IsPieceWithin, IsMatrixWithin, IsPlaceWithin};
 
 use crate::commands::{Command, Matrix, Piece};
+use crate::places::TilePlace;
 
 fn matrix_is_within(matrix: &Matrix)
     ensures { IsMatrixWithin current matrix.now }
@@ -19,6 +20,14 @@ fn matrix_is_within(matrix: &Matrix)
     matrix.py.get();
 }
 
+fn place_is_within(place: TilePlace)
+    ensures { IsPlaceWithin place }
+{
+    place.zoom.get();
+    place.column.get();
+    place.row.get();
+}
+
 /// A piece that changes a tile.
 fn tile_is_within(piece: &Piece)
     requires { changes_tile piece.now ≡ true }
@@ -27,27 +36,16 @@ fn tile_is_within(piece: &Piece)
     match piece {
         Piece::Tile {
             table,
-            zoom,
-            column,
-            row,
+            place,
             bytes,
         } => {
             table.as_str();
-            zoom.get();
-            column.get();
-            row.get();
+            place_is_within(*place);
             bytes.as_slice();
         }
-        Piece::TileDrop {
-            table,
-            zoom,
-            column,
-            row,
-        } => {
+        Piece::TileDrop { table, place } => {
             table.as_str();
-            zoom.get();
-            column.get();
-            row.get();
+            place_is_within(*place);
         }
         _ => unreachable!(),
     }
@@ -187,7 +185,7 @@ fn layout_is_within(command: &Command)
     }
 }
 
-/// A command that lays out a pyramid or a tile matrix.
+/// A command that lays out a pyramid.
 fn pyramid_is_within(command: &Command)
     requires { lays_out_pyramid command.now ≡ true }
     ensures { IsWithin current command.now }
@@ -210,15 +208,6 @@ fn pyramid_is_within(command: &Command)
             min_y.get();
             max_x.get();
             max_y.get();
-        }
-        Command::Matrix {
-            table,
-            zoom,
-            matrix,
-        } => {
-            table.as_str();
-            zoom.get();
-            matrix_is_within(matrix);
         }
         _ => unreachable!(),
     }
@@ -255,83 +244,7 @@ fn edition_is_within(command: &Command)
     }
 }
 
-/// A command that changes a tile.
-fn tile_command_is_within(command: &Command)
-    requires { is_tile_change command.now ≡ true }
-    ensures { IsWithin current command.now }
-{
-    match command {
-        Command::Tile {
-            table,
-            zoom,
-            column,
-            row,
-            bytes,
-        } => {
-            table.as_str();
-            zoom.get();
-            column.get();
-            row.get();
-            bytes.as_slice();
-        }
-        Command::TileDrop {
-            table,
-            zoom,
-            column,
-            row,
-        } => {
-            table.as_str();
-            zoom.get();
-            column.get();
-            row.get();
-        }
-        _ => unreachable!(),
-    }
-}
-
-/// A command that changes an attribute row or a medium.
-fn item_command_is_within(command: &Command)
-    requires { is_item_change command.now ≡ true }
-    ensures { IsWithin current command.now }
-{
-    match command {
-        Command::Row {
-            table,
-            id,
-            title,
-            note,
-            amount,
-        } => {
-            table.as_str();
-            id.get();
-            title.as_str();
-            note.as_str();
-            amount.get();
-        }
-        Command::RowDrop { table, id } => {
-            table.as_str();
-            id.get();
-        }
-        Command::Media {
-            table,
-            id,
-            content_type,
-            bytes,
-        } => {
-            table.as_str();
-            id.get();
-            content_type.as_str();
-            bytes.as_slice();
-        }
-        Command::MediaDrop { table, id } => {
-            table.as_str();
-            id.get();
-        }
-        _ => unreachable!(),
-    }
-}
-
-/// A command that changes relations or mapping rows.
+/// A command that changes relations.
 fn relation_is_within(command: &Command)
     requires { is_relation_change command.now ≡ true }
     ensures { IsWithin current command.now }
@@ -350,24 +263,6 @@ fn relation_is_within(command: &Command)
         Command::RelationDrop { mapping } => {
             mapping.as_str();
         }
-        Command::Map {
-            mapping,
-            base_id,
-            related_id,
-        } => {
-            mapping.as_str();
-            base_id.get();
-            related_id.get();
-        }
-        Command::MapDrop {
-            mapping,
-            base_id,
-            related_id,
-        } => {
-            mapping.as_str();
-            base_id.get();
-            related_id.get();
-        }
         _ => unreachable!(),
     }
 }
@@ -384,16 +279,9 @@ impl Command {
             Command::Srs { .. } | Command::Table { .. } | Command::Drop { .. } => {
                 layout_is_within(self)
             }
-            Command::Pyramid { .. } | Command::Matrix { .. } => pyramid_is_within(self),
-            Command::Tile { .. } | Command::TileDrop { .. } => tile_command_is_within(self),
-            Command::Row { .. }
-            | Command::RowDrop { .. }
-            | Command::Media { .. }
-            | Command::MediaDrop { .. } => item_command_is_within(self),
-            Command::Relation { .. }
-            | Command::RelationDrop { .. }
-            | Command::Map { .. }
-            | Command::MapDrop { .. } => relation_is_within(self),
+            Command::Pyramid { .. } => pyramid_is_within(self),
+            Command::Edit(piece) => piece.is_within(),
+            Command::Relation { .. } | Command::RelationDrop { .. } => relation_is_within(self),
             Command::Edition { .. }
             | Command::Discard { .. }
             | Command::Stage { .. }

@@ -98,7 +98,6 @@ module _ {S : Type 0} {g : Ghosts S} where
     same = h.same;
     survives = h.survives;
     on = h.on;
-    tells = λ clean profile ground p it when.
-        tt;
+    tells = λ clean profile ground p it when. tt;
     faults = inr refl;
   }

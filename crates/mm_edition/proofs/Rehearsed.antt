@@ -30,8 +30,7 @@ module _ {S : Type 0} (g : Ghosts S) (was now : Held S) (begun : now ≡ record 
       → ComesTo profile (state g now) (ground_of (state g was)) p
   put p meets seen = record {
     meets = meets;
-    inside = rw begun
-        (record { mode = refl; back = λ is_open. (refl, is_open); reads = seen.reads });
+    inside = rw begun (record { mode = refl; back = λ is_open. (refl, is_open); reads = seen.reads });
   }
 
   tells : (p next : Package) (r : Result Outcome Fault)

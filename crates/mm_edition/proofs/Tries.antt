@@ -193,8 +193,7 @@ module _ {S : Type 0} {g : Ghosts S} {a b c : Transaction S} {edition at : Text}
       → ChangesWhere g b c {T = T} (λ p. contains_key p.editions edition ≡ true) (closed edition) (Err e)
       → IsErrAnd r (λ f. f ≡ e) → Publishes g a c edition at r
   closes_not change is = record {
-    attempt = attempts_failed it (attempts change) is
-        (λ profile ground p when end. (end.0, end.2, end.3));
+    attempt = attempts_failed it (attempts change) is (λ profile ground p when end. (end.0, end.2, end.3));
   }
 
 -- ---- told of states

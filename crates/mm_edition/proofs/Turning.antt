@@ -7,7 +7,7 @@ use Rattle.sqlite.specs.Store.{Ghosts}
 use Rattle.sqlite.specs.declared.transaction.Transaction.{Transaction}
 use Rattle.mm_definitions.specs.Keys.{Text, piece}
 use Rattle.mm_definitions.specs.Package.{Package}
-use Rattle.mm_definitions.specs.Pieces.{piece_row, piece_command}
+use Rattle.mm_definitions.specs.Pieces.{piece_row}
 use Rattle.mm_definitions.specs.Rules.{Meets}
 use Rattle.mm_definitions.specs.Conditions.{least, piece_reasons}
 use Rattle.mm_definitions.specs.Effects.{piece_effect}
@@ -17,6 +17,7 @@ use Rattle.mm_definitions.specs.declared.answers.Outcome.{Outcome}
 use Rattle.mm_definitions.specs.declared.answers.Outcome.TheVariants as outcome
 use Rattle.mm_definitions.specs.Refusals.{Refusal, reason_of}
 use Rattle.mm_definitions.proofs.RefusalFacts.{its_reason}
+use Rattle.mm_definitions.specs.declared.commands.Command.TheVariants as commands
 use Rattle.mm_definitions.specs.declared.commands.Piece.{Piece}
 use Rattle.mm_definitions.specs.declared.commands.Piece.TheVariants as pieces
 use Rattle.mm_laws.proofs.Published.{read_back}
@@ -35,9 +36,9 @@ use Rattle.mm_edition.proofs.Lending.{goes_for}
 -- ---- a piece as its command
 
 -- a piece is refused for the least of its reasons
-piece_refusal : (p : Package) (q : Piece) → refusal p (piece_command q) ≡ refusal_of (least (piece_reasons p q)) None
-piece_refusal p (pieces.Tile table zoom column row bytes) = refl
-piece_refusal p (pieces.TileDrop table zoom column row) = refl
+piece_refusal : (p : Package) (q : Piece) → refusal p (commands.Edit q) ≡ refusal_of (least (piece_reasons p q)) None
+piece_refusal p (pieces.Tile table place bytes) = refl
+piece_refusal p (pieces.TileDrop table place) = refl
 piece_refusal p (pieces.Row table id title note amount) = refl
 piece_refusal p (pieces.RowDrop table id) = refl
 piece_refusal p (pieces.Media table id content_type bytes) = refl
@@ -45,17 +46,6 @@ piece_refusal p (pieces.MediaDrop table id) = refl
 piece_refusal p (pieces.Map mapping base_id related_id) = refl
 piece_refusal p (pieces.MapDrop mapping base_id related_id) = refl
 piece_refusal p (pieces.Matrix table zoom m) = refl
-
-piece_done : (p : Package) (q : Piece) (at : Text) → done p (piece_command q) at ≡ piece_effect p q at
-piece_done p (pieces.Tile table zoom column row bytes) at = refl
-piece_done p (pieces.TileDrop table zoom column row) at = refl
-piece_done p (pieces.Row table id title note amount) at = refl
-piece_done p (pieces.RowDrop table id) at = refl
-piece_done p (pieces.Media table id content_type bytes) at = refl
-piece_done p (pieces.MediaDrop table id) at = refl
-piece_done p (pieces.Map mapping base_id related_id) at = refl
-piece_done p (pieces.MapDrop mapping base_id related_id) at = refl
-piece_done p (pieces.Matrix table zoom m) at = refl
 
 no_reason : (v : Option ℕ) → refusal_of v None ≡ None → v ≡ None
 no_reason None e = refl
@@ -72,16 +62,16 @@ module _ (edition : Text) (number : ℕ) (at : Text) where
   -- the command of the piece that stands gives what its turn gives
   command_turn : (p : Package) (q : Piece) (it : Outcome)
       → get p.pieces (piece edition (pos number)) ≡ Some (piece_row q)
-      → refusal p (piece_command q) ≡ refused_as it
-      → (after_turn edition number at p (as_turn it) ≡ step_at p (piece_command q) at)
+      → refusal p (commands.Edit q) ≡ refused_as it
+      → (after_turn edition number at p (as_turn it) ≡ step_at p (commands.Edit q) at)
       × TellsPieceTurn edition number p (as_turn it)
   command_turn p q outcome.Done there accepted = (
     ap (row_given p at) there ∙ ap (piece_given p at) (read_back q)
-        ∙ sym (ap (λ r. unless_refused r (done p (piece_command q) at) p) accepted ∙ piece_done p q at),
+        ∙ sym (ap (λ r. unless_refused r (done p (commands.Edit q) at) p) accepted),
     (q, there, no_reason (least (piece_reasons p q)) (sym (piece_refusal p q) ∙ accepted)),
   )
   command_turn p q (outcome.Refused why) there refused = (
-    sym (ap (λ r. unless_refused r (done p (piece_command q) at) p) refused),
+    sym (ap (λ r. unless_refused r (done p (commands.Edit q) at) p) refused),
     (q, there, its_reason (least (piece_reasons p q)) why (sym (piece_refusal p q) ∙ refused)),
   )
 
@@ -93,7 +83,7 @@ module _ {S : Type 0} (g : Ghosts S) (old new : Transaction S) (edition : Text) 
   -- the command that it is taken as
   abbrev Taken : Outline → Text → Result Outcome Fault → Type 0
   Taken outline at = LendsFor g old new (HoldsPiece edition number outline)
-      (λ bytes. piece_command (with_bytes bytes outline)) at
+      (λ bytes. commands.Edit (with_bytes bytes outline)) at
 
 module _ {S : Type 0} {g : Ghosts S} {a b : Transaction S} {edition : Text} {number : ℕ} {at : Text} where
   pub turn_ends : {found : Option Outline} → Found g a b edition number (Ok found) → found ≡ None

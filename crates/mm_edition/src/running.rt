@@ -2,7 +2,7 @@
 
 ghost use Rattle.std.specs.Prelude.{◌≡◌, ℕ, List, [], true};
 ghost use Rattle.mm_definitions.specs.PieceGroups.{changes_tile, changes_item, changes_mapping, puts_matrix};
-ghost use Rattle.mm_definitions.specs.Pieces.{piece_command};
+ghost use Rattle.mm_definitions.specs.declared.commands.Command.TheVariants as commands;
 ghost use Rattle.mm_staging.specs.Outlines.{with_bytes};
 ghost use Rattle.mm_layout.specs.Handed.{Lends, LendsFor, LendsUnstamped};
 ghost use Rattle.mm_edition.specs.Turns.{HoldsPiece, TakesTurn};
@@ -35,7 +35,7 @@ fn run_tile<S: Alter>(
 ) -> Result<Outcome, Fault>
     requires { changes_tile (with_bytes [] outline.now) ≡ true }
     ensures { LendsFor S.Store tx.old tx.new (HoldsPiece edition.now number outline.now)
-        (λ bytes. piece_command (with_bytes bytes outline.now)) last_change.now result }
+        (λ bytes. commands.Edit (with_bytes bytes outline.now)) last_change.now result }
 {
     match outline {
         Outline::Tile { table, place } => put_tile_of_piece(
@@ -62,7 +62,7 @@ fn run_item<S: Alter>(
 ) -> Result<Outcome, Fault>
     requires { changes_item (with_bytes [] outline.now) ≡ true }
     ensures { LendsFor S.Store tx.old tx.new (HoldsPiece edition.now number outline.now)
-        (λ bytes. piece_command (with_bytes bytes outline.now)) last_change.now result }
+        (λ bytes. commands.Edit (with_bytes bytes outline.now)) last_change.now result }
 {
     match outline {
         Outline::Row {
@@ -103,7 +103,7 @@ fn run_item<S: Alter>(
 fn run_mapping<S: Alter>(tx: &mut Transaction<'_, S>, outline: &Outline) -> Result<Outcome, Fault>
     requires { changes_mapping (with_bytes [] outline.now) ≡ true }
     ensures { (bytes : List ℕ) → LendsUnstamped S.Store tx.old tx.new
-        (piece_command (with_bytes bytes outline.now)) result }
+        (commands.Edit (with_bytes bytes outline.now)) result }
 {
     match outline {
         Outline::Map {
@@ -128,7 +128,7 @@ fn run_matrix<S: Alter>(
 ) -> Result<Outcome, Fault>
     requires { puts_matrix (with_bytes [] outline.now) ≡ true }
     ensures { (bytes : List ℕ) → Lends S.Store tx.old tx.new
-        (piece_command (with_bytes bytes outline.now)) last_change.now result }
+        (commands.Edit (with_bytes bytes outline.now)) last_change.now result }
 {
     match outline {
         Outline::Matrix {
@@ -149,7 +149,7 @@ fn run_piece<S: Alter>(
     last_change: &str,
 ) -> Result<Outcome, Fault>
     ensures { LendsFor S.Store tx.old tx.new (HoldsPiece edition.now number outline.now)
-        (λ bytes. piece_command (with_bytes bytes outline.now)) last_change.now result }
+        (λ bytes. commands.Edit (with_bytes bytes outline.now)) last_change.now result }
 {
     match outline {
         Outline::Tile { .. } | Outline::TileDrop { .. } => run_tile(

@@ -555,8 +555,7 @@ module _ (files : Files) (name : Text) (entries : List KitEntry) (p : Package) (
         s.answer,
         record {
           whole = s.whole;
-          pieces = subst (HasPieces q name) (sym kit)
-              (all_staged s.done q s.passed (omega (arith, s.count, most)));
+          pieces = subst (HasPieces q name) (sym kit) (all_staged s.done q s.passed (omega (arith, s.count, most)));
           count = ap length kit ∙ s.count;
         },
       )

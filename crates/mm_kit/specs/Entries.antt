@@ -36,7 +36,7 @@ without_file r = if takes_file r then take (length r - 1) r ++ codes "00" ∷ []
 
 -- the entry of the piece that is then spelled
 abbrev pub entry_of : Piece → Option Text → KitEntry
-entry_of (pieces.Tile table zoom column row bytes) (Some file) = Tile table zoom column row file
+entry_of (pieces.Tile table place bytes) (Some file) = Tile table place file
 entry_of (pieces.Media table id content_type bytes) (Some file) = Media table id content_type file
 entry_of q file = Ready q
 

@@ -25,8 +25,8 @@ with_file most make (Some bytes) = if nat_le 1 (length bytes) && nat_le (length 
 -- the piece of an entry, with its file's bytes where it names one: no more than a tile or a medium has
 abbrev pub filled : Files → KitEntry → Result Piece ℕ
 filled files (Ready q) = Ok q
-filled files (Tile table zoom column row file) =
-    with_file MostTileBytes (λ bytes. pieces.Tile table zoom column row bytes) (files file)
+filled files (Tile table place file) =
+    with_file MostTileBytes (λ bytes. pieces.Tile table place bytes) (files file)
 filled files (Media table id content_type file) =
     with_file MostMediaBytes (λ bytes. pieces.Media table id content_type bytes) (files file)
 

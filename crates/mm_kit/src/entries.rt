@@ -11,12 +11,13 @@ ghost use Rattle.mm_kit.specs.Entries.{HoldsAgainstEntry, IsEntry, IsInForm, IsL
 use crate::file_names::FileName;
 use mm_base::read_piece;
 use mm_definitions::answers::ReadFault;
-use mm_definitions::bounded::{Id, Place, Zoom};
+use mm_definitions::bounded::Id;
 use mm_definitions::commands::Piece;
 use mm_definitions::content_types::ContentType;
 use mm_definitions::limits::{LAST_ID, MOST_PIECES};
 use mm_definitions::names::Name;
 use mm_definitions::numbers::read_number;
+use mm_definitions::places::TilePlace;
 use mm_definitions::refusals::Reason;
 use std::alloc::{AllocError, Global};
 
@@ -26,9 +27,7 @@ pub enum KitEntry {
     Ready(Piece),
     Tile {
         table: Name,
-        zoom: Zoom,
-        column: Place,
-        row: Place,
+        place: TilePlace,
         file: FileName,
     },
     Media {
@@ -70,17 +69,9 @@ fn place_entry(piece: Piece, file: Option<FileName>) -> KitEntry
     match piece {
         Piece::Tile {
             table,
-            zoom,
-            column,
-            row,
+            place,
             bytes: _bytes,
-        } => KitEntry::Tile {
-            table,
-            zoom,
-            column,
-            row,
-            file,
-        },
+        } => KitEntry::Tile { table, place, file },
         Piece::Media {
             table,
             id,

@@ -72,19 +72,11 @@ pub(crate) fn fill<F: Folder>(
 {
     match entry {
         KitEntry::Ready(piece) => Ok(piece),
-        KitEntry::Tile {
-            table,
-            zoom,
-            column,
-            row,
-            file,
-        } => {
+        KitEntry::Tile { table, place, file } => {
             let bytes = read_bytes(alloc, folder, &file)?;
             Ok(Piece::Tile {
                 table,
-                zoom,
-                column,
-                row,
+                place,
                 bytes,
             })
         }

@@ -6,15 +6,11 @@ use Rattle.std.specs.FinMap.{get, contains_key}
 use Rattle.std.proofs.lemmas.Bool.{not-false, and_parts}
 use Rattle.mm_definitions.specs.Keys.{Text, piece}
 use Rattle.mm_definitions.specs.Package.{Package, PieceRow, PiecesPart}
-use Rattle.mm_definitions.specs.Bounds.{Profile}
-use Rattle.mm_definitions.specs.Pieces.{piece_row, same_piece, piece_by_kind, if_spelled, row_piece, piece_command}
-use Rattle.mm_definitions.specs.Within.{IsPieceWithin, IsWithin}
+use Rattle.mm_definitions.specs.Pieces.{piece_row, same_piece, piece_by_kind, if_spelled, row_piece}
 use Rattle.mm_definitions.specs.Stamp.{stamp}
-use Rattle.mm_definitions.specs.Conditions.{least, own_reasons, piece_reasons, is_open, piece_count, has_equal_piece}
-use Rattle.mm_definitions.specs.Effects.{effect, piece_effect}
+use Rattle.mm_definitions.specs.Conditions.{least, is_open, piece_count, has_equal_piece}
 use Rattle.mm_definitions.specs.Step.{reasons, refused_piece, publishing, refusal, done, unless_refused, step}
 use Rattle.mm_definitions.specs.declared.commands.Piece.{Piece}
-use Rattle.mm_definitions.specs.declared.commands.Piece.TheVariants as pieces
 use Rattle.mm_definitions.specs.declared.commands.Command.TheVariants as commands
 use Rattle.mm_definitions.proofs.Parts.{either_false, put_again, same_some}
 use Rattle.mm_definitions.proofs.KeyLaws.{texts, numbers, piece_keys}
@@ -84,36 +80,3 @@ stage_again p edition number q moment none low =
     ∙ ap (λ (m : PiecesPart). record p { pieces = m })
     (put_again piece_keys p.pieces (piece edition number) (piece_row q)
     (there.1 ∙ ap Some (sym (same_row (piece_row q) there.0 there.2))))
-
-pub same_reasons : (q : Piece) (p : Package) → own_reasons p (piece_command q) ≡ piece_reasons p q
-same_reasons (pieces.Tile table zoom column row bytes) p = refl
-same_reasons (pieces.TileDrop table zoom column row) p = refl
-same_reasons (pieces.Row table id title note amount) p = refl
-same_reasons (pieces.RowDrop table id) p = refl
-same_reasons (pieces.Media table id content_type bytes) p = refl
-same_reasons (pieces.MediaDrop table id) p = refl
-same_reasons (pieces.Map mapping base_id related_id) p = refl
-same_reasons (pieces.MapDrop mapping base_id related_id) p = refl
-same_reasons (pieces.Matrix table zoom m) p = refl
-
-pub same_effect : (q : Piece) (p : Package) (stamp : Text) → effect p (piece_command q) stamp ≡ piece_effect p q stamp
-same_effect (pieces.Tile table zoom column row bytes) p stamp = refl
-same_effect (pieces.TileDrop table zoom column row) p stamp = refl
-same_effect (pieces.Row table id title note amount) p stamp = refl
-same_effect (pieces.RowDrop table id) p stamp = refl
-same_effect (pieces.Media table id content_type bytes) p stamp = refl
-same_effect (pieces.MediaDrop table id) p stamp = refl
-same_effect (pieces.Map mapping base_id related_id) p stamp = refl
-same_effect (pieces.MapDrop mapping base_id related_id) p stamp = refl
-same_effect (pieces.Matrix table zoom m) p stamp = refl
-
-pub same_limits : (q : Piece) (profile : Profile) → IsWithin profile (piece_command q) ↔ IsPieceWithin profile q
-same_limits (pieces.Tile table zoom column row bytes) profile = (λ h. h, λ h. h)
-same_limits (pieces.TileDrop table zoom column row) profile = (λ h. h, λ h. h)
-same_limits (pieces.Row table id title note amount) profile = (λ h. h, λ h. h)
-same_limits (pieces.RowDrop table id) profile = (λ h. h, λ h. h)
-same_limits (pieces.Media table id content_type bytes) profile = (λ h. h, λ h. h)
-same_limits (pieces.MediaDrop table id) profile = (λ h. h, λ h. h)
-same_limits (pieces.Map mapping base_id related_id) profile = (λ h. h, λ h. h)
-same_limits (pieces.MapDrop mapping base_id related_id) profile = (λ h. h, λ h. h)
-same_limits (pieces.Matrix table zoom m) profile = (λ h. h, λ h. h)

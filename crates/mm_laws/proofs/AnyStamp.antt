@@ -62,8 +62,8 @@ touched_alike q c table s r same = record {
 
 effect_alike : (x : Piece) (q : Package) (c : ContentsPart) (s r : Text) → SameKeys c q.contents
     → IsAlike (piece_effect (with_contents q c) x s) (piece_effect q x r)
-effect_alike (pieces.Tile table zoom column row bytes) q c s r same = touched_alike _ c table s r same
-effect_alike (pieces.TileDrop table zoom column row) q c s r same = touched_alike _ c table s r same
+effect_alike (pieces.Tile table place bytes) q c s r same = touched_alike _ c table s r same
+effect_alike (pieces.TileDrop table place) q c s r same = touched_alike _ c table s r same
 effect_alike (pieces.Row table id title note amount) q c s r same = touched_alike _ c table s r same
 effect_alike (pieces.RowDrop table id) q c s r same = touched_alike _ c table s r same
 effect_alike (pieces.Media table id content_type bytes) q c s r same = touched_alike _ c table s r same
@@ -74,8 +74,8 @@ effect_alike (pieces.Matrix table zoom m) q c s r same = touched_alike _ c table
 
 reasons_alike : (x : Piece) (q : Package) (c : ContentsPart) → SameKeys c q.contents
     → piece_reasons (with_contents q c) x ≡ piece_reasons q x
-reasons_alike (pieces.Tile table zoom column row bytes) q c same = let e = same table in cc
-reasons_alike (pieces.TileDrop table zoom column row) q c same = let e = same table in cc
+reasons_alike (pieces.Tile table place bytes) q c same = let e = same table in cc
+reasons_alike (pieces.TileDrop table place) q c same = let e = same table in cc
 reasons_alike (pieces.Row table id title note amount) q c same = let e = same table in cc
 reasons_alike (pieces.RowDrop table id) q c same = let e = same table in cc
 reasons_alike (pieces.Media table id content_type bytes) q c same = let e = same table in cc

@@ -5,15 +5,17 @@ use Rattle.std.proofs.lemmas.Int.{ints}
 use Rattle.std.specs.Bool.{⊤}
 use Rattle.std.specs.FinMap.{get, contains_key, insert, remove}
 use Rattle.std.proofs.lemmas.Bool.{and_from, not-false}
-use Rattle.mm_definitions.specs.Keys.{Text, same_text, same_number, level, tile, Item, item, Pairing, pairing}
+use Rattle.mm_definitions.specs.Keys.{Text, same_text, same_number, level, Item, item, Pairing, pairing}
 use Rattle.mm_definitions.specs.Parts.{Has, at_value}
 use Rattle.mm_definitions.specs.Package.{Package, Grid, Kinds, HasKind, has_kind, is_pyramid, AttributeRow, Medium}
 use Rattle.mm_definitions.specs.Package.{Relation, RowsPart, MediaPart}
 use Rattle.mm_definitions.specs.Rules.{IsInside, HasItem, Joins, IsSuited, TileWithin, RowWithin, MediumWithin}
 use Rattle.mm_definitions.specs.Rules.{PairingWithin}
+use Rattle.mm_definitions.specs.Places.{tile_at}
 use Rattle.mm_definitions.specs.Conditions.{piece_reasons, outside, is_mapped, joins_item, lacks_row, lacks_medium}
 use Rattle.mm_definitions.specs.declared.commands.Kind.TheVariants as kinds
 use Rattle.mm_definitions.specs.declared.commands.Piece.TheVariants as pieces
+use Rattle.mm_definitions.specs.declared.places.TilePlace.{TilePlace}
 use Rattle.mm_definitions.proofs.Parts.{each_put, each_remove, stands_after_put, beside_remove, no_entry, either_false}
 use Rattle.mm_definitions.proofs.Parts.{same_itself}
 use Rattle.mm_definitions.proofs.KeyLaws.{numbers, texts, tile_keys, items, pairing_keys}
@@ -42,25 +44,29 @@ inside (Some g) column row e f =
           p.1,
     )
 
-pub tile_put : (table : Text) (zoom column row : ℕ) (bytes : List ℕ)
-    → PieceKeeps (pieces.Tile table zoom column row bytes)
-tile_put table zoom column row bytes profile p moment stamp h within low is none =
-    let r = none_holds (piece_reasons p (pieces.Tile table zoom column row bytes)) none in
+pub tile_put : (table : Text) (place : TilePlace) (bytes : List ℕ) → PieceKeeps (pieces.Tile table place bytes)
+tile_put table place bytes profile p moment stamp h within low is none =
+    let r = none_holds (piece_reasons p (pieces.Tile table place bytes)) none in
     let pyramid : is_pyramid p.kinds table ≡ true = is_suited (contains_key p.contents table) (is_pyramid p.kinds table)
     r.0 r.1.0 in
-    let stands : contains_key p.matrices (level table (pos zoom)) ≡ true =
-    stands_where (is_pyramid p.kinds table) (contains_key p.matrices (level table (pos zoom))) r.1.1.0 pyramid in
-    let key = tile table (pos zoom) (pos column) (pos row) in
+    let stands : contains_key p.matrices (level table (pos place.zoom)) ≡ true =
+    stands_where (is_pyramid p.kinds table) (contains_key p.matrices (level table (pos place.zoom))) r.1.1.0 pyramid in
+    let key = tile_at table place in
     touch_keeps profile (record p { tiles = insert p.tiles key bytes }) table stamp moment low is
     (with_tiles profile p h _
     (each_put tile_keys p.tiles key bytes (λ k _. IsInside (get p.matrices (level k.table k.zoom)) k.column k.row)
-    h.q10 (inside (get p.matrices (level table (pos zoom))) column row stands r.1.1.1.0))
-    (each_put tile_keys p.tiles key bytes TileWithin h.q16.tiles
-    (record { table = within.0; zoom = within.1; column = within.2; row = within.3; bytes = within.4 })))
+    h.q10 (inside (get p.matrices (level table (pos place.zoom))) place.column place.row stands r.1.1.1.0))
+    (each_put tile_keys p.tiles key bytes TileWithin h.q16.tiles (record {
+      table = within.0;
+      zoom = within.1.zoom;
+      column = within.1.column;
+      row = within.1.row;
+      bytes = within.2;
+    })))
 
-pub tile_drop : (table : Text) (zoom column row : ℕ) → PieceKeeps (pieces.TileDrop table zoom column row)
-tile_drop table zoom column row profile p moment stamp h within low is none =
-    let key = tile table (pos zoom) (pos column) (pos row) in
+pub tile_drop : (table : Text) (place : TilePlace) → PieceKeeps (pieces.TileDrop table place)
+tile_drop table place profile p moment stamp h within low is none =
+    let key = tile_at table place in
     touch_keeps profile (record p { tiles = remove p.tiles key }) table stamp moment low is (with_tiles profile p h _
     (each_remove tile_keys p.tiles key (λ k _. IsInside (get p.matrices (level k.table k.zoom)) k.column k.row) h.q10)
     (each_remove tile_keys p.tiles key TileWithin h.q16.tiles))

@@ -5,7 +5,7 @@ use Rattle.std.specs.FinMap.{get, insert}
 use Rattle.mm_definitions.specs.Keys.{Text, same_text, PieceKey}
 use Rattle.mm_definitions.specs.Parts.{Has, at_value}
 use Rattle.mm_definitions.specs.Package.{Package, Box, Contents, ContentsPart, PieceRow}
-use Rattle.mm_definitions.specs.Pieces.{piece_command, row_piece}
+use Rattle.mm_definitions.specs.Pieces.{row_piece}
 use Rattle.mm_definitions.specs.Stamp.{stamp}
 use Rattle.mm_definitions.specs.Conditions.{least, piece_reasons, pieces_of}
 use Rattle.mm_definitions.specs.Effects.{changed_at, touched_row, touch, piece_effect, with_pyramid, with_zoom_row}
@@ -19,7 +19,7 @@ use Rattle.mm_definitions.specs.declared.commands.Command.{Command}
 use Rattle.mm_definitions.specs.declared.commands.Command.TheVariants as commands
 use Rattle.mm_definitions.proofs.Parts.{at_put, beside_put, after_remove, same_key, same_some, not_none}
 use Rattle.mm_definitions.proofs.KeyLaws.{texts}
-use Rattle.mm_laws.specs.Laws.{changes, some_piece_changes, sets_last_change, IsSetOrKept}
+use Rattle.mm_laws.specs.Laws.{piece_changes, some_piece_changes, sets_last_change, IsSetOrKept}
 use Rattle.mm_laws.proofs.Published.{same_ok}
 use Rattle.mm_laws.proofs.Closed.{publish_went}
 
@@ -50,9 +50,9 @@ touch_sets p table stamp t row e = by_row (get p.contents table) refl e where
   by_row (Some c) was f = put_sets p.contents table (changed_at stamp c) stamp t row refl f
 
 piece_sets : (q : Piece) (p : Package) (stamp t : Text) (row : Contents) → Has (piece_effect p q stamp).contents t row
-    → IsSetOrKept (changes (piece_command q) t) stamp p.contents t row
-piece_sets (pieces.Tile table zoom column row bytes) p stamp t r e = touch_sets _ table stamp t r e
-piece_sets (pieces.TileDrop table zoom column row) p stamp t r e = touch_sets _ table stamp t r e
+    → IsSetOrKept (piece_changes q t) stamp p.contents t row
+piece_sets (pieces.Tile table place bytes) p stamp t r e = touch_sets _ table stamp t r e
+piece_sets (pieces.TileDrop table place) p stamp t r e = touch_sets _ table stamp t r e
 piece_sets (pieces.Row table id title note amount) p stamp t r e = touch_sets _ table stamp t r e
 piece_sets (pieces.RowDrop table id) p stamp t r e = touch_sets _ table stamp t r e
 piece_sets (pieces.Media table id content_type bytes) p stamp t r e = touch_sets _ table stamp t r e
@@ -78,9 +78,9 @@ module _ (stamp t : Text) (row : Contents) where
   by_reason : (p next : Package) (number : ℕ) (q : Piece) (later : Bool) (rest : Package → Result Package PieceRefusal)
       → ((middle : Package) → rest middle ≡ Ok next → IsSetOrKept later stamp middle.contents t row)
       → (v : Option ℕ) → after_trial (decided p number q stamp v) rest ≡ Ok next
-      → IsSetOrKept (changes (piece_command q) t || later) stamp p.contents t row
+      → IsSetOrKept (piece_changes q t || later) stamp p.contents t row
   by_reason p next number q later rest on None e =
-      either_sets (changes (piece_command q) t) later stamp t p.contents (piece_effect p q stamp).contents row
+      either_sets (piece_changes q t) later stamp t p.contents (piece_effect p q stamp).contents row
       (λ x. piece_sets q p stamp t x) (on (piece_effect p q stamp) e)
   by_reason p next number q later rest on (Some n) e =
       absurd (let f : ◌≡◌ {A = Result Package PieceRefusal} (Err (number, n)) (Ok next) = e in cc)
@@ -88,7 +88,7 @@ module _ (stamp t : Text) (row : Contents) where
   by_piece : (p next : Package) (number : ℕ) (later : Bool) (rest : Package → Result Package PieceRefusal)
       → ((middle : Package) → rest middle ≡ Ok next → IsSetOrKept later stamp middle.contents t row)
       → (v : Option Piece) → after_trial (piece_trial p number stamp v) rest ≡ Ok next
-      → IsSetOrKept (at_value (λ q. changes (piece_command q) t) v || later) stamp p.contents t row
+      → IsSetOrKept (at_value (λ q. piece_changes q t) v || later) stamp p.contents t row
   by_piece p next number later rest on None e = on p e
   by_piece p next number later rest on (Some q) e = by_reason p next number q later rest on (least (piece_reasons p q))
       e
@@ -123,7 +123,6 @@ done_sets (commands.Srs id name organization organization_id definition descript
     (refl, e)
 done_sets (commands.Pyramid table identifier srs min_x min_y max_x max_y step) p moment t row none e =
     pyramid_sets step p table identifier srs _ (stamp moment) t row e
-done_sets (commands.Matrix table zoom m) p moment t row none e = touch_sets _ table (stamp moment) t row e
 done_sets (commands.Table table kind identifier) p moment t row none e = put_sets p.contents table _ (stamp moment) t
     row refl e
 done_sets (commands.Drop table) p moment t row none e = inr (refl, (after_remove texts p.contents table t row e).1)
@@ -135,20 +134,7 @@ done_sets (commands.Stage edition number q) p moment t row none e = inr (refl, e
 done_sets (commands.Publish edition) p moment t row none e = let went = publish_went p edition moment none in
     closed_sets p edition (stamp moment) t row (edition_trial p edition (stamp moment)) refl e went.0 went.1
 done_sets (commands.Rehearse edition) p moment t row none e = inr (refl, e)
-done_sets (commands.Tile table zoom column row_at bytes) p moment t row none e =
-    piece_sets (pieces.Tile table zoom column row_at bytes) p (stamp moment) t row e
-done_sets (commands.TileDrop table zoom column row_at) p moment t row none e =
-    piece_sets (pieces.TileDrop table zoom column row_at) p (stamp moment) t row e
-done_sets (commands.Row table id title note amount) p moment t row none e =
-    piece_sets (pieces.Row table id title note amount) p (stamp moment) t row e
-done_sets (commands.RowDrop table id) p moment t row none e = piece_sets (pieces.RowDrop table id) p (stamp moment) t
-    row e
-done_sets (commands.Media table id content_type bytes) p moment t row none e =
-    piece_sets (pieces.Media table id content_type bytes) p (stamp moment) t row e
-done_sets (commands.MediaDrop table id) p moment t row none e = piece_sets (pieces.MediaDrop table id) p (stamp moment)
-    t row e
-done_sets (commands.Map mapping base_id related_id) p moment t row none e = inr (refl, e)
-done_sets (commands.MapDrop mapping base_id related_id) p moment t row none e = inr (refl, e)
+done_sets (commands.Edit q) p moment t row none e = piece_sets q p (stamp moment) t row e
 
 pub last_change : (p : Package) (c : Command) (moment : ℕ) (t : Text) (row : Contents) → refusal p c ≡ None
     → Has (step p c moment).contents t row

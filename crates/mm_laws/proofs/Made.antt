@@ -131,22 +131,19 @@ shaped_as {fs = fs} s ts vs h = all_shaped fs s.shapes s.are ts vs h
 abbrev tile_shapes : HasShapes forms.tile_form
 tile_shapes = record {
   shapes = plain_shape ∷ count_shape ∷ count_shape ∷ count_shape ∷ plain_shape ∷ [];
-  are =
-      (name_shape, (natural_shape _ _, (natural_shape _ _, (natural_shape _ _, (bytes_shape _, tt)))));
+  are = (name_shape, (natural_shape _ _, (natural_shape _ _, (natural_shape _ _, (bytes_shape _, tt)))));
 }
 
 abbrev tile_drop_shapes : HasShapes forms.tile_drop_form
 tile_drop_shapes = record {
-  shapes = plain_shape ∷ count_shape ∷ count_shape ∷ count_shape
-      ∷ [];
+  shapes = plain_shape ∷ count_shape ∷ count_shape ∷ count_shape ∷ [];
   are = (name_shape, (natural_shape _ _, (natural_shape _ _, (natural_shape _ _, tt))));
 }
 
 abbrev row_shapes : HasShapes forms.row_form
 row_shapes = record {
   shapes = plain_shape ∷ whole_shape ∷ plain_shape ∷ plain_shape ∷ whole_shape ∷ [];
-  are =
-      (name_shape, (number_shape _ _, (text_shape _ _, (text_shape _ _, (number_shape _ _, tt)))));
+  are = (name_shape, (number_shape _ _, (text_shape _ _, (text_shape _ _, (number_shape _ _, tt)))));
 }
 
 abbrev item_shapes : HasShapes forms.item_form
@@ -154,22 +151,19 @@ item_shapes = record { shapes = plain_shape ∷ whole_shape ∷ []; are = (name_
 
 abbrev media_shapes : HasShapes forms.media_form
 media_shapes = record {
-  shapes = plain_shape ∷ whole_shape ∷ plain_shape ∷ plain_shape
-      ∷ [];
+  shapes = plain_shape ∷ whole_shape ∷ plain_shape ∷ plain_shape ∷ [];
   are = (name_shape, (number_shape _ _, (type_shape, (bytes_shape _, tt))));
 }
 
 abbrev map_shapes : HasShapes forms.map_form
 map_shapes = record {
-  shapes = plain_shape ∷ whole_shape ∷ whole_shape
-      ∷ [];
+  shapes = plain_shape ∷ whole_shape ∷ whole_shape ∷ [];
   are = (name_shape, (number_shape _ _, (number_shape _ _, tt)));
 }
 
 abbrev srs_shapes : HasShapes forms.srs_form
 srs_shapes = record {
-  shapes = whole_shape ∷ plain_shape ∷ plain_shape ∷ whole_shape ∷ plain_shape ∷ plain_shape
-      ∷ [];
+  shapes = whole_shape ∷ plain_shape ∷ plain_shape ∷ whole_shape ∷ plain_shape ∷ plain_shape ∷ [];
   are = (
     number_shape _ _,
     (
@@ -213,15 +207,13 @@ matrix_shapes profile = record {
 
 abbrev table_shapes : HasShapes forms.table_form
 table_shapes = record {
-  shapes = plain_shape ∷ kind_shape ∷ plain_shape
-      ∷ [];
+  shapes = plain_shape ∷ kind_shape ∷ plain_shape ∷ [];
   are = (name_shape, (kinds_shape, (identifier_shape, tt)));
 }
 
 abbrev relation_shapes : HasShapes forms.relation_form
 relation_shapes = record {
-  shapes = plain_shape ∷ plain_shape ∷ plain_shape ∷ relation_shape
-      ∷ [];
+  shapes = plain_shape ∷ plain_shape ∷ plain_shape ∷ relation_shape ∷ [];
   are = (name_shape, (name_shape, (name_shape, (relations_shape, tt))));
 }
 

@@ -6,13 +6,13 @@ use Rattle.mm_definitions.specs.Keys.{Text, Level, level, level_cmp}
 use Rattle.mm_definitions.specs.Parts.{Has, at_value}
 use Rattle.mm_definitions.specs.Package.{Grid, Box, MatrixSet, IsPyramid, is_pyramid, has_kind}
 use Rattle.mm_definitions.specs.Rules.{Fits, FitsIn, IsInside, MatrixWithin}
-use Rattle.mm_definitions.specs.Conditions.{own_reasons, grid, is_product, clashes}
+use Rattle.mm_definitions.specs.Conditions.{piece_reasons, grid, is_product, clashes}
 use Rattle.mm_definitions.specs.declared.commands.Kind.TheVariants.{Two}
 use Rattle.mm_definitions.specs.declared.commands.Matrix.{Matrix}
-use Rattle.mm_definitions.specs.declared.commands.Command.TheVariants as commands
+use Rattle.mm_definitions.specs.declared.commands.Piece.TheVariants as pieces
 use Rattle.mm_definitions.proofs.Parts.{each_put, kept_by_new}
 use Rattle.mm_definitions.proofs.KeyLaws.{levels, numbers}
-use Rattle.mm_laws.proofs.Kept.{Keeps}
+use Rattle.mm_laws.proofs.Kept.{PieceKeeps}
 use Rattle.mm_laws.proofs.Reasons.{none_holds, and_false}
 use Rattle.mm_laws.proofs.KindFacts.{are_same, is_pyramid_tells, pyramid_set}
 use Rattle.mm_laws.proofs.Touch.{touch_keeps}
@@ -40,9 +40,9 @@ still_inside old new more k column row h = found (get old k) refl h where
   found None e i = absurd i
   found (Some g) e i = subst (λ v. IsInside v column row) (sym (more k g e)) i
 
-pub matrix : (table : Text) (zoom : ℕ) (m : Matrix) → Keeps (commands.Matrix table zoom m)
+pub matrix : (table : Text) (zoom : ℕ) (m : Matrix) → PieceKeeps (pieces.Matrix table zoom m)
 matrix table zoom m profile p moment stamp h within low is none =
-    let r = none_holds (own_reasons p (commands.Matrix table zoom m)) none in
+    let r = none_holds (piece_reasons p (pieces.Matrix table zoom m)) none in
     let pyramid : is_pyramid p.kinds table ≡ true = not-false (is_pyramid p.kinds table)
     (and_false (contains_key p.contents table) (not (is_pyramid p.kinds table)) r.1.0
     (not-false (contains_key p.contents table) r.0)) in

@@ -43,8 +43,7 @@ smaller_still a b c f g = omega (arith, ints)
 finer_still : (a b c : Grid) → IsFiner a b → IsFiner b c → IsFiner a c
 finer_still a b c f g = record {
   across = smaller_still _ _ _ f.across g.across;
-  down = smaller_still _ _ _ f.down
-      g.down;
+  down = smaller_still _ _ _ f.down g.down;
 }
 
 equal_or_below : (a b : ℤ) → a ≤ℤ b → (a ≡ b) ⊎ (a <ℤ b)

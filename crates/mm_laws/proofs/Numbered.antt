@@ -6,12 +6,14 @@ use Rattle.std.proofs.Math.Bool.{and-false}
 use Rattle.std.proofs.lemmas.Bool.{and_parts}
 use Rattle.mm_definitions.proofs.Parts.{same_some}
 use Rattle.mm_definitions.specs.Package.{Package}
-use Rattle.mm_definitions.specs.Conditions.{Reasons, least, smaller, own_reasons}
+use Rattle.mm_definitions.specs.Conditions.{Reasons, least, smaller, own_reasons, piece_reasons}
 use Rattle.mm_definitions.specs.Editions.{PieceRefusal}
 use Rattle.mm_definitions.specs.Step.{reasons, is_publishing, publishing, refused_piece, refusal_of, refusal}
 use Rattle.mm_definitions.specs.Refusals.{Refusal}
 use Rattle.mm_definitions.specs.declared.commands.Command.{Command}
 use Rattle.mm_definitions.specs.declared.commands.Command.TheVariants as commands
+use Rattle.mm_definitions.specs.declared.commands.Piece.{Piece}
+use Rattle.mm_definitions.specs.declared.commands.Piece.TheVariants as pieces
 use Rattle.mm_laws.specs.Laws.{is_reason_number, IsNumberedRefusal}
 
 abbrev AllNumbers : (ℕ → Bool) → Reasons → Bool
@@ -38,11 +40,22 @@ least_passes test (r ∷ rs) n all e =
     let p = and_parts (test r.0) (AllNumbers test rs) all in
     passes test r.0 r.1 (least rs) n p.0 (λ k f. least_passes test rs k p.1 f) e
 
+piece_numbers : (p : Package) (q : Piece) → AllNumbers (λ n. is_reason_number n && not (n == 53)) (piece_reasons p q)
+    ≡ true
+piece_numbers p (pieces.Tile table place bytes) = refl
+piece_numbers p (pieces.TileDrop table place) = refl
+piece_numbers p (pieces.Row table id title note amount) = refl
+piece_numbers p (pieces.RowDrop table id) = refl
+piece_numbers p (pieces.Media table id content_type bytes) = refl
+piece_numbers p (pieces.MediaDrop table id) = refl
+piece_numbers p (pieces.Map mapping base_id related_id) = refl
+piece_numbers p (pieces.MapDrop mapping base_id related_id) = refl
+piece_numbers p (pieces.Matrix table zoom m) = refl
+
 own_numbers : (p : Package) (c : Command) → AllNumbers (λ n. is_reason_number n && not (n == 53)) (own_reasons p c)
     ≡ true
 own_numbers p (commands.Srs id name organization organization_id definition description) = refl
 own_numbers p (commands.Pyramid table identifier system min_x min_y max_x max_y step) = refl
-own_numbers p (commands.Matrix table zoom m) = refl
 own_numbers p (commands.Table table kind identifier) = refl
 own_numbers p (commands.Drop table) = refl
 own_numbers p (commands.Relation mapping base related name) = refl
@@ -52,14 +65,7 @@ own_numbers p (commands.Discard name) = refl
 own_numbers p (commands.Stage edition number q) = refl
 own_numbers p (commands.Publish edition) = refl
 own_numbers p (commands.Rehearse edition) = refl
-own_numbers p (commands.Tile table zoom column row bytes) = refl
-own_numbers p (commands.TileDrop table zoom column row) = refl
-own_numbers p (commands.Row table id title note amount) = refl
-own_numbers p (commands.RowDrop table id) = refl
-own_numbers p (commands.Media table id content_type bytes) = refl
-own_numbers p (commands.MediaDrop table id) = refl
-own_numbers p (commands.Map mapping base_id related_id) = refl
-own_numbers p (commands.MapDrop mapping base_id related_id) = refl
+own_numbers p (commands.Edit q) = piece_numbers p q
 
 with_last : (test : ℕ → Bool) (rs : Reasons) (n : ℕ) (b : Bool) → AllNumbers test rs ≡ true → test n ≡ true
     → AllNumbers test (rs ++ (n, b) ∷ []) ≡ true

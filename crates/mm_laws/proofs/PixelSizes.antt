@@ -34,8 +34,7 @@ finer_tells g h e = let p = and_parts _ _ e in record { across = below _ _ p.0; 
 double_tells : (g h : Grid) → is_double g h ≡ true → IsHalved g h
 double_tells g h e = let p = and_parts _ _ e in record {
   across = are_same numbers g.pixel_x_size (pos 2 *ℤ h.pixel_x_size) p.0;
-  down = are_same numbers g.pixel_y_size
-      (pos 2 *ℤ h.pixel_y_size) p.1;
+  down = are_same numbers g.pixel_y_size (pos 2 *ℤ h.pixel_y_size) p.1;
 }
 
 -- what the test says of two matrices, the first at the lower zoom

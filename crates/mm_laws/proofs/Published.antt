@@ -31,8 +31,8 @@ use Rattle.mm_laws.proofs.Relations.{numbered_still}
 use Rattle.mm_laws.proofs.OnePart.{with_editions}
 
 pub piece_keeps : (q : Piece) → PieceKeeps q
-piece_keeps (pieces.Tile table zoom column row bytes) = contents.tile_put table zoom column row bytes
-piece_keeps (pieces.TileDrop table zoom column row) = contents.tile_drop table zoom column row
+piece_keeps (pieces.Tile table place bytes) = contents.tile_put table place bytes
+piece_keeps (pieces.TileDrop table place) = contents.tile_drop table place
 piece_keeps (pieces.Row table id title note amount) = contents.row_put table id title note amount
 piece_keeps (pieces.RowDrop table id) = contents.row_drop table id
 piece_keeps (pieces.Media table id content_type bytes) = contents.media_put table id content_type bytes
@@ -52,8 +52,8 @@ row_itself r =
     (number r.k4)) (number r.k5)) (number r.k6)) (number r.k7)) (text r.t1)) (text r.t2)) (text r.bytes)
 
 pub by_kind : (q : Piece) → piece_by_kind (piece_row q) ≡ Some q
-by_kind (pieces.Tile table zoom column row bytes) = refl
-by_kind (pieces.TileDrop table zoom column row) = refl
+by_kind (pieces.Tile table place bytes) = refl
+by_kind (pieces.TileDrop table place) = refl
 by_kind (pieces.Row table id title note amount) = refl
 by_kind (pieces.RowDrop table id) = refl
 by_kind (pieces.Media table id content_type bytes) = refl

@@ -81,8 +81,7 @@ relation_put mapping base related name profile p moment stamp h within low is no
       base = base;
       related = related;
       base_column = codes "id";
-      related_column =
-          codes "id";
+      related_column = codes "id";
       name = relation_text name;
     } in
     let next = insert p.relations mapping relation in
@@ -118,11 +117,9 @@ relation_put mapping base related name profile p moment stamp h within low is no
       mapping = within.0;
       base = within.1;
       related = within.2;
-      base_column =
-          ascii_is_clean (codes "id") refl refl;
+      base_column = ascii_is_clean (codes "id") refl refl;
       related_column = ascii_is_clean (codes "id") refl refl;
-      name =
-          relation_is_clean name;
+      name = relation_is_clean name;
     }))
     h.q16.pairings
   where

@@ -122,14 +122,13 @@ matrix_measures m h = record {
   tw = h.tw;
   th = h.th;
   px = units.wider m.px h.px;
-  py = units.wider
-      m.py h.py;
+  py = units.wider m.py h.py;
 }
 
 -- the fields of a staged piece keep their numbers, and the limits of micrometres are wider
 piece_within : (q : Piece) → IsPieceWithin millimetres q → IsPieceWithin micrometres q
-piece_within (pieces.Tile table zoom column row bytes) h = h
-piece_within (pieces.TileDrop table zoom column row) h = h
+piece_within (pieces.Tile table place bytes) h = h
+piece_within (pieces.TileDrop table place) h = h
 piece_within (pieces.Row table id title note amount) h = h
 piece_within (pieces.RowDrop table id) h = h
 piece_within (pieces.Media table id content_type bytes) h = h
@@ -139,8 +138,8 @@ piece_within (pieces.MapDrop mapping base_id related_id) h = h
 piece_within (pieces.Matrix table zoom m) h = (h.0, h.1, matrix_measures m h.2)
 
 piece_taken : (q : Piece) → Takes millimetres q → Takes micrometres q
-piece_taken (pieces.Tile table zoom column row bytes) h = tt
-piece_taken (pieces.TileDrop table zoom column row) h = tt
+piece_taken (pieces.Tile table place bytes) h = tt
+piece_taken (pieces.TileDrop table place) h = tt
 piece_taken (pieces.Row table id title note amount) h = tt
 piece_taken (pieces.RowDrop table id) h = tt
 piece_taken (pieces.Media table id content_type bytes) h = tt

@@ -10,7 +10,6 @@ use Rattle.mm_definitions.specs.Fields.{Value, Whole, Plain, HoldsValue, IsAgain
 use Rattle.mm_definitions.specs.Records.{Form, IsLeast, IsMet, IsUnmet, Spells, HoldsAgainst, SpellsPiece}
 use Rattle.mm_definitions.specs.Records.{HoldsAgainstPiece, record_form, piece_form, command_word, command_values}
 use Rattle.mm_definitions.specs.Records.{piece_word, piece_values}
-use Rattle.mm_definitions.specs.Pieces.{piece_command}
 use Rattle.mm_definitions.specs.declared.commands.Step.{Step}
 use Rattle.mm_definitions.specs.declared.commands.Step.TheVariants as steps
 use Rattle.mm_definitions.specs.declared.commands.PlainKind.{PlainKind}
@@ -24,6 +23,7 @@ use Rattle.mm_definitions.specs.declared.commands.Piece.TheVariants.{Tile, TileD
 use Rattle.mm_definitions.specs.declared.commands.Piece.TheVariants.{Map, MapDrop}
 use Rattle.mm_definitions.specs.declared.commands.Command.{Command}
 use Rattle.mm_definitions.specs.declared.commands.Command.TheVariants as commands
+use Rattle.mm_definitions.specs.declared.places.TilePlace.{TilePlace}
 use Rattle.mm_definitions.proofs.ReadingFacts.{spells_one, none_against, one_value}
 use Rattle.mm_laws.specs.Laws.{IsReadingNumber}
 
@@ -105,21 +105,23 @@ kind_of t = if bytes_eq t (codes "attributes") then plain_kinds.Attributes else 
 abbrev pub relation_of : Text → RelationName
 relation_of t = if bytes_eq t (codes "media") then names.Media else names.SimpleAttributes
 
+abbrev place_of : List Value → TilePlace
+place_of vs = record { zoom = count_of vs 1; column = count_of vs 2; row = count_of vs 3 }
+
 abbrev matrix_of : List Value → Matrix
 matrix_of vs = record {
   mw = count_of vs 2;
   mh = count_of vs 3;
   tw = count_of vs 4;
   th = count_of vs 5;
-  px = number_of
-      vs 6;
+  px = number_of vs 6;
   py = number_of vs 7;
 }
 
 abbrev pub piece_of : Text → List Value → Piece
 piece_of word vs =
-    if bytes_eq word (codes "tile") then Tile (text_of vs 0) (count_of vs 1) (count_of vs 2) (count_of vs 3) (text_of vs 4) else
-    (if bytes_eq word (codes "tile-drop") then TileDrop (text_of vs 0) (count_of vs 1) (count_of vs 2) (count_of vs 3) else
+    if bytes_eq word (codes "tile") then Tile (text_of vs 0) (place_of vs) (text_of vs 4) else
+    (if bytes_eq word (codes "tile-drop") then TileDrop (text_of vs 0) (place_of vs) else
     (if bytes_eq word (codes "row") then Row (text_of vs 0) (number_of vs 1) (text_of vs 2) (text_of vs 3) (number_of vs 4) else
     (if bytes_eq word (codes "row-drop") then RowDrop (text_of vs 0) (number_of vs 1) else
     (if bytes_eq word (codes "media") then Media (text_of vs 0) (number_of vs 1) (text_of vs 2) (text_of vs 3) else
@@ -142,11 +144,11 @@ command_of word vs =
     (if bytes_eq word (codes "publish") then commands.Publish (text_of vs 0) else
     (if bytes_eq word (codes "rehearse") then commands.Rehearse (text_of vs 0) else
     (if bytes_eq word (codes "stage") then commands.Stage (text_of vs 0) (number_of vs 1) (piece_of (text_of vs 2) (tail (tail (tail vs)))) else
-    piece_command (piece_of word vs)))))))))))
+    commands.Edit (piece_of word vs)))))))))))
 
 pub piece_back : (q : Piece) → piece_of (piece_word q) (piece_values q) ≡ q
-piece_back (Tile table zoom column row bytes) = refl
-piece_back (TileDrop table zoom column row) = refl
+piece_back (Tile table place bytes) = refl
+piece_back (TileDrop table place) = refl
 piece_back (Row table id title note amount) = refl
 piece_back (RowDrop table id) = refl
 piece_back (Media table id content_type bytes) = refl
@@ -155,25 +157,28 @@ piece_back (Map mapping base_id related_id) = refl
 piece_back (MapDrop mapping base_id related_id) = refl
 piece_back (pieces.Matrix table zoom matrix) = refl
 
+edit_back : (q : Piece) → command_of (piece_word q) (piece_values q) ≡ commands.Edit q
+edit_back (Tile table place bytes) = refl
+edit_back (TileDrop table place) = refl
+edit_back (Row table id title note amount) = refl
+edit_back (RowDrop table id) = refl
+edit_back (Media table id content_type bytes) = refl
+edit_back (MediaDrop table id) = refl
+edit_back (Map mapping base_id related_id) = refl
+edit_back (MapDrop mapping base_id related_id) = refl
+edit_back (pieces.Matrix table zoom matrix) = refl
+
 pub command_back : (c : Command) → command_of (command_word c) (command_values c) ≡ c
 command_back (commands.Srs id name organization organization_id definition description) = refl
 command_back (commands.Pyramid table identifier srs min_x min_y max_x max_y steps.Two) = refl
 command_back (commands.Pyramid table identifier srs min_x min_y max_x max_y steps.Other) = refl
-command_back (commands.Matrix table zoom matrix) = refl
 command_back (commands.Table table plain_kinds.Attributes identifier) = refl
 command_back (commands.Table table plain_kinds.Media identifier) = refl
 command_back (commands.Drop table) = refl
-command_back (commands.Tile table zoom column row bytes) = refl
-command_back (commands.TileDrop table zoom column row) = refl
-command_back (commands.Row table id title note amount) = refl
-command_back (commands.RowDrop table id) = refl
-command_back (commands.Media table id content_type bytes) = refl
-command_back (commands.MediaDrop table id) = refl
 command_back (commands.Relation mapping base related names.Media) = refl
 command_back (commands.Relation mapping base related names.SimpleAttributes) = refl
 command_back (commands.RelationDrop mapping) = refl
-command_back (commands.Map mapping base_id related_id) = refl
-command_back (commands.MapDrop mapping base_id related_id) = refl
+command_back (commands.Edit q) = edit_back q
 command_back (commands.Edition name) = refl
 command_back (commands.Discard name) = refl
 command_back (commands.Stage edition number q) = ap (commands.Stage edition number) (piece_back q)

@@ -15,14 +15,12 @@ use Rattle.mm_definitions.specs.declared.commands.Command.TheVariants as command
 use Rattle.mm_laws.specs.Laws.{AllWithin}
 use Rattle.mm_laws.proofs.Reasons.{NoneHolds, none_holds}
 use Rattle.mm_laws.proofs.Systems.{srs}
-use Rattle.mm_laws.proofs.Matrices.{matrix}
 use Rattle.mm_laws.proofs.Tables.{table_put, pyramid_put}
 use Rattle.mm_laws.proofs.Dropped.{drop}
 use Rattle.mm_laws.proofs.Relations.{relation_put, relation_drop, edition_put, discard}
 use Rattle.mm_laws.proofs.Staged.{stage}
-use Rattle.mm_laws.proofs.Published.{publish}
+use Rattle.mm_laws.proofs.Published.{piece_keeps, publish}
 use Rattle.mm_laws.proofs.StampFound.{stamp_is}
-use Rattle.mm_laws.proofs.Contents as contents
 
 none_of_the_first : (rs more : Reasons) → NoneHolds (rs ++ more) → NoneHolds rs
 none_of_the_first [] more h = tt
@@ -41,7 +39,6 @@ done_keeps (commands.Srs id name organization organization_id definition descrip
     organization_id definition description
 done_keeps (commands.Pyramid table identifier system min_x min_y max_x max_y step) = pyramid_put table identifier system
     min_x min_y max_x max_y step
-done_keeps (commands.Matrix table zoom m) = matrix table zoom m
 done_keeps (commands.Table table kind identifier) = table_put table kind identifier
 done_keeps (commands.Drop table) = drop table
 done_keeps (commands.Relation mapping base related name) = relation_put mapping base related name
@@ -52,14 +49,7 @@ done_keeps (commands.Stage edition number q) = stage edition number q
 done_keeps (commands.Publish edition) = λ profile p moment stamp h within low is none. publish profile moment stamp low
     is edition within p h
 done_keeps (commands.Rehearse edition) = λ profile p moment stamp h within low is none. h
-done_keeps (commands.Tile table zoom column row bytes) = contents.tile_put table zoom column row bytes
-done_keeps (commands.TileDrop table zoom column row) = contents.tile_drop table zoom column row
-done_keeps (commands.Row table id title note amount) = contents.row_put table id title note amount
-done_keeps (commands.RowDrop table id) = contents.row_drop table id
-done_keeps (commands.Media table id content_type bytes) = contents.media_put table id content_type bytes
-done_keeps (commands.MediaDrop table id) = contents.media_drop table id
-done_keeps (commands.Map mapping base_id related_id) = contents.map_put mapping base_id related_id
-done_keeps (commands.MapDrop mapping base_id related_id) = contents.map_drop mapping base_id related_id
+done_keeps (commands.Edit q) = piece_keeps q
 
 pub step_keeps : (profile : Profile) (p : Package) (c : Command) (moment : ℕ) → Meets profile p → IsWithin profile c
     → IsMoment moment

@@ -58,8 +58,7 @@ srs id name organization organization_id definition description profile p moment
               numbers = inl (within.0, within.3);
               name = within.1;
               organization = within.2;
-              definition =
-                  within.4;
+              definition = within.4;
               description = within.5;
             });
         contents = h.q16.contents;

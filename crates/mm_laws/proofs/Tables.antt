@@ -244,8 +244,7 @@ module _ (profile : Profile) (p : Package) (h : Meets profile p) (table : Text) 
     q10 = h.q10;
     q11 = record {
       of_rows = λ k x e. kind_stays k.table kinds.Attributes (h.q11.of_rows k x e);
-      of_media = λ k x e.
-          kind_stays k.table kinds.Media (h.q11.of_media k x e);
+      of_media = λ k x e. kind_stays k.table kinds.Media (h.q11.of_media k x e);
     };
     q12 = λ m r e. suited_stays r (h.q12 m r e);
     q13 = h.q13;
@@ -301,15 +300,13 @@ table_put table kind identifier profile p moment stamp h within low is none =
       limits = record {
         table = within.0;
         data_type = ascii_is_clean (codes "attributes") refl refl;
-        identifier =
-            within.1;
+        identifier = within.1;
         description = refl;
         last_change = (moment, low, is);
         min_x = tt;
         min_y = tt;
         max_x = tt;
-        max_y =
-            tt;
+        max_y = tt;
         system = tt;
       };
       beside = λ t n. refl;
@@ -342,8 +339,7 @@ pyramid_put table identifier srs min_x min_y max_x max_y step profile p moment s
       data_type = codes "tiles";
       identifier = identifier;
       description = [];
-      last_change =
-          stamp;
+      last_change = stamp;
       min_x = Some min_x;
       min_y = Some min_y;
       max_x = Some max_x;
@@ -372,14 +368,12 @@ pyramid_put table identifier srs min_x min_y max_x max_y step profile p moment s
       limits = record {
         table = within.0;
         data_type = ascii_is_clean (codes "tiles") refl refl;
-        identifier =
-            within.1;
+        identifier = within.1;
         description = refl;
         last_change = (moment, low, is);
         min_x = within.3;
         min_y = within.4;
-        max_x =
-            within.5;
+        max_x = within.5;
         max_y = within.6;
         system = within.2;
       };
@@ -396,8 +390,7 @@ pyramid_put table identifier srs min_x min_y max_x max_y step profile p moment s
           (record {
             table = within.0;
             system = within.2;
-            box =
-                record { min_x = within.3; min_y = within.4; max_x = within.5; max_y = within.6 };
+            box = record { min_x = within.3; min_y = within.4; max_x = within.5; max_y = within.6 };
           });
       extension_limits = limits;
       exact = exact;

@@ -76,8 +76,7 @@ touched_row_keeps profile p table stamp moment low is (Some row) was h =
     record {
       q1 = h.q1;
       q2 = record {
-        of_contents = each (λ t c. IfSome c.system (MayName p.systems p.kinds t)) (λ _ _ x. x)
-            h.q2.of_contents;
+        of_contents = each (λ t c. IfSome c.system (MayName p.systems p.kinds t)) (λ _ _ x. x) h.q2.of_contents;
         of_sets = h.q2.of_sets;
       };
       q3 = distinct p.contents table row was stamp h.q3;
@@ -98,8 +97,7 @@ touched_row_keeps profile p table stamp moment low is (Some row) was h =
       };
       q6 = record {
         of_sets = h.q6.of_sets;
-        of_contents = each
-            (λ _ c. IsOrdered c.min_x c.max_x × IsOrdered c.min_y c.max_y) (λ _ _ x. x) h.q6.of_contents;
+        of_contents = each (λ _ c. IsOrdered c.min_x c.max_x × IsOrdered c.min_y c.max_y) (λ _ _ x. x) h.q6.of_contents;
       };
       q7 = h.q7;
       q8 = h.q8;

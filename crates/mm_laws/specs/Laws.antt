@@ -7,7 +7,7 @@ use Rattle.mm_definitions.specs.Keys.{Text, same_text, PieceKey}
 use Rattle.mm_definitions.specs.Bounds.{Profile, IsMoment}
 use Rattle.mm_definitions.specs.Parts.{Each, Has, at_value}
 use Rattle.mm_definitions.specs.Package.{Package, Contents, ContentsPart, PieceRow, open_state, published_state}
-use Rattle.mm_definitions.specs.Pieces.{piece_command, row_piece}
+use Rattle.mm_definitions.specs.Pieces.{row_piece}
 use Rattle.mm_definitions.specs.Within.{IsWithin}
 use Rattle.mm_definitions.specs.Stamp.{stamp}
 use Rattle.mm_definitions.specs.Conditions.{least, piece_reasons, pieces_of}
@@ -17,6 +17,7 @@ use Rattle.mm_definitions.specs.Refusals.{Refusal}
 use Rattle.mm_definitions.specs.declared.commands.Command.{Command}
 use Rattle.mm_definitions.specs.declared.commands.Command.TheVariants as commands
 use Rattle.mm_definitions.specs.declared.commands.Piece.{Piece}
+use Rattle.mm_definitions.specs.declared.commands.Piece.TheVariants as pieces
 
 -- ---- lists
 -- every command of the list is within the limits, and every moment
@@ -68,22 +69,27 @@ pub record IsNumberedRefusal (r : Refusal) : Type 0 where
   pub names_a_piece : is_some r.piece ≡ (r.number == 53)
 
 -- ---- last_change
+-- whether a piece sets last_change of the table
+abbrev pub piece_changes : Piece → Text → Bool
+piece_changes (pieces.Tile table place bytes) t = same_text t table
+piece_changes (pieces.TileDrop table place) t = same_text t table
+piece_changes (pieces.Row table id title note amount) t = same_text t table
+piece_changes (pieces.RowDrop table id) t = same_text t table
+piece_changes (pieces.Media table id content_type bytes) t = same_text t table
+piece_changes (pieces.MediaDrop table id) t = same_text t table
+piece_changes (pieces.Matrix table zoom matrix) t = same_text t table
+piece_changes _ t = false
+
 -- whether the command, other than by publishing, sets last_change of the table
 abbrev pub changes : Command → Text → Bool
 changes (commands.Pyramid table identifier srs min_x min_y max_x max_y step) t = same_text t table
-changes (commands.Matrix table zoom matrix) t = same_text t table
 changes (commands.Table table kind identifier) t = same_text t table
-changes (commands.Tile table zoom column row bytes) t = same_text t table
-changes (commands.TileDrop table zoom column row) t = same_text t table
-changes (commands.Row table id title note amount) t = same_text t table
-changes (commands.RowDrop table id) t = same_text t table
-changes (commands.Media table id content_type bytes) t = same_text t table
-changes (commands.MediaDrop table id) t = same_text t table
+changes (commands.Edit q) t = piece_changes q t
 changes _ t = false
 
--- whether the command of one of these pieces sets last_change of the table
+-- whether one of these pieces sets last_change of the table
 abbrev pub some_piece_changes : List (PieceKey × PieceRow) → Text → Bool
-some_piece_changes es t = list_any (λ e. at_value (λ q. changes (piece_command q) t) (row_piece e.1)) es
+some_piece_changes es t = list_any (λ e. at_value (λ q. piece_changes q t) (row_piece e.1)) es
 
 -- publishing sets it of each table that a piece names so
 abbrev pub sets_last_change : Package → Command → Text → Bool

@@ -2,15 +2,13 @@
 
 ghost use Rattle.std.specs.Prelude.{◌≡◌, ◌↔◌, ℕ, ℤ, ◌≤ℤ◌, pos, unsigned_abs, Some, None};
 ghost use Rattle.mm_definitions.specs.Bounds.{Profile};
-ghost use Rattle.mm_definitions.specs.Conditions.{own_reasons, piece_reasons, piece_count};
-ghost use Rattle.mm_definitions.specs.Effects.{effect, piece_effect};
+ghost use Rattle.mm_definitions.specs.Conditions.{piece_count};
 ghost use Rattle.mm_definitions.specs.Keys.{Text};
 ghost use Rattle.mm_definitions.specs.Package.{Package, PieceRow, open_state};
 ghost use Rattle.mm_definitions.specs.Parts.{Has};
-ghost use Rattle.mm_definitions.specs.Pieces.{piece_row, row_piece, piece_command};
+ghost use Rattle.mm_definitions.specs.Pieces.{piece_row, row_piece};
 ghost use Rattle.mm_definitions.specs.Rules.{Meets};
 ghost use Rattle.mm_definitions.specs.Step.{refusal, step};
-ghost use Rattle.mm_definitions.specs.Within.{IsWithin, IsPieceWithin};
 ghost use Rattle.mm_definitions.specs.declared.commands.Command.TheVariants as commands;
 ghost use Rattle.mm_definitions.specs.declared.commands.Piece.{Piece};
 ghost use Rattle.mm_laws.specs.Laws.{FirstRefused, IsNewEdition, IsPublished};
@@ -20,16 +18,6 @@ pub fn a_new_edition_is_open_and_holds_no_pieces()
     ensures { (profile : Profile) (p : Package) (name : Text) (moment : ℕ) → Meets profile p
         → refusal p (commands.Edition name) ≡ None
         → IsNewEdition name (step p (commands.Edition name) moment) }
-{}
-
-/// A piece has the reasons, the effect and the limits of the command that it spells.
-pub fn a_piece_is_its_command()
-    ensures reasons { (p : Package) (q : Piece) → own_reasons p (piece_command q)
-        ≡ piece_reasons p q }
-    ensures effects { (p : Package) (q : Piece) (stamp : Text)
-        → effect p (piece_command q) stamp ≡ piece_effect p q stamp }
-    ensures limits { (profile : Profile) (q : Piece) → IsWithin profile (piece_command q)
-        ↔ IsPieceWithin profile q }
 {}
 
 /// A row spells a piece exactly where it is the row in which that piece is kept, column for column.

@@ -73,8 +73,7 @@ nothing_holds version db none = record {
     pieces_told = none_told piece_cmp piece_id piece_with empty;
     are = record {
       digested = λ id b is. absurd (no_entry int_cmp id b is);
-      filled = λ id b is. absurd
-          (no_entry int_cmp id b is);
+      filled = λ id b is. absurd (no_entry int_cmp id b is);
       single = λ i j b c is js. absurd (no_entry int_cmp i b is);
     };
     named = λ id b is. absurd (no_entry int_cmp id b is);

@@ -9,14 +9,14 @@ use Rattle.mm_definitions.specs.Parts.{Has, at_value}
 use Rattle.mm_definitions.specs.Package.{Package, MatrixSet, kind_text, has_kind, is_pyramid}
 use Rattle.mm_definitions.specs.Rules.{Meets}
 use Rattle.mm_definitions.specs.Effects.{step_kind}
-use Rattle.mm_definitions.specs.Conditions.{least, own_reasons, clashes, is_product, grid}
+use Rattle.mm_definitions.specs.Conditions.{least, piece_reasons, clashes, is_product, grid}
 use Rattle.mm_definitions.specs.Neighbours.{Zoomed, neighbours, IsNearestBelow, IsNearestAbove, is_halved}
 use Rattle.mm_definitions.specs.declared.commands.Kind.{Kind}
 use Rattle.mm_definitions.specs.declared.commands.Kind.TheVariants as kinds
 use Rattle.mm_definitions.specs.declared.commands.Matrix.{Matrix}
 use Rattle.mm_definitions.specs.declared.commands.Step.{Step}
 use Rattle.mm_definitions.specs.declared.commands.Step.TheVariants as steps
-use Rattle.mm_definitions.specs.declared.commands.Command.TheVariants as commands
+use Rattle.mm_definitions.specs.declared.commands.Piece.TheVariants as pieces
 use Rattle.mm_definitions.proofs.Parts.{none_of}
 use Rattle.mm_laws.proofs.Clashes.{clash_by_nearest}
 use Rattle.mm_laws.proofs.Reasons.{none_holds, and_false, is_suited}
@@ -26,7 +26,7 @@ use Rattle.mm_layout.proofs.Registered.{lacks_contents, has_contents}
 
 module _ (p : Package) (table : Text) (zoom : ℕ) (m : Matrix) where
   abbrev why : Option ℕ
-  why = least (own_reasons p (commands.Matrix table zoom m))
+  why = least (piece_reasons p (pieces.Matrix table zoom m))
 
   abbrev of_matrix : Bool → Bool → Bool → Bool → Bool → Option ℕ
   of_matrix stands pyramid there misfit clash =
@@ -130,9 +130,9 @@ module _ (p : Package) (table : Text) (zoom : ℕ) (m : Matrix) where
                 sym (fitting clash ∙ ap (of_matrix true true false false) calm)
 
   -- where it is not refused, no matrix stands at the zoom
-  pub matrix_is_new : None ≡ least (own_reasons p (commands.Matrix table zoom m))
+  pub matrix_is_new : None ≡ least (piece_reasons p (pieces.Matrix table zoom m))
       → get p.matrices (level table (pos zoom)) ≡ None
   matrix_is_new none =
-      let each = none_holds (own_reasons p (commands.Matrix table zoom m)) (sym none) in
+      let each = none_holds (piece_reasons p (pieces.Matrix table zoom m)) (sym none) in
       none_of (get p.matrices (level table (pos zoom)))
       (and_false pyramid there each.1.1.0 (is_suited (contains_key p.contents table) pyramid each.0 each.1.0))

@@ -2,10 +2,11 @@
 
 ghost use Rattle.std.specs.Prelude.{◌≡◌, pos, None, MatchOption};
 ghost use Rattle.std.specs.FinMap.{get, contains_key, insert};
-ghost use Rattle.mm_definitions.specs.Conditions.{own_reasons, grid};
+ghost use Rattle.mm_definitions.specs.Conditions.{piece_reasons, grid};
 ghost use Rattle.mm_definitions.specs.Effects.{step_kind};
 ghost use Rattle.mm_definitions.specs.Keys.{level};
 ghost use Rattle.mm_definitions.specs.declared.commands.Command.TheVariants as commands;
+ghost use Rattle.mm_definitions.specs.declared.commands.Piece.TheVariants as pieces;
 ghost use Rattle.mm_meta.specs.Shown.{IsPlainKind};
 ghost use Rattle.mm_store.specs.Handed.{Tells, ChangesWhere, FindsRefusal};
 ghost use Rattle.mm_layout.specs.Handed.{Lends};
@@ -81,7 +82,7 @@ fn matrix_refusal<S: Alter>(
     matrix: &Matrix,
 ) -> Result<Option<Reason>, Fault>
     ensures { FindsRefusal S.Store tx.old tx.new
-        (λ p. own_reasons p (commands.Matrix table.now zoom matrix.now)) result }
+        (λ p. piece_reasons p (pieces.Matrix table.now zoom matrix.now)) result }
 {
     let Some(kind) = kind_of(tx, table)? else {
         return Ok(Some(Reason::NO_TABLE));
@@ -115,7 +116,7 @@ pub fn add_matrix<S: Alter>(
     matrix: &Matrix,
     last_change: &str,
 ) -> Result<Outcome, Fault>
-    ensures { Lends S.Store tx.old tx.new (commands.Matrix table.now zoom matrix.now)
+    ensures { Lends S.Store tx.old tx.new (commands.Edit (pieces.Matrix table.now zoom matrix.now))
         last_change.now result }
 {
     let table = table.as_str();

@@ -1,8 +1,7 @@
 -- What the bytes of names and numbers are: no slash, and ASCII.
-use Rattle.std.proofs.Common.{nat_abs, ◌≡◌, ◌≢◌, ◌<◌, inl, inr, ℕ, zero, suc, ℤ, pos, negsuc, ◌≤ℤ◌, List, [], ◌∷◌}
+use Rattle.std.proofs.Common.{◌≡◌, ◌≢◌, ◌<◌, inl, inr, ℕ, zero, suc, ℤ, List, [], ◌∷◌}
 use Rattle.std.proofs.Common.{length, true, false, ◌==◌, All, IsTrue, not, refl, ap, arith}
 use Rattle.std.specs.List.{list_any}
-use Rattle.std.proofs.lemmas.Int.{ints}
 use Rattle.std.proofs.lemmas.List.Elements.{All-head, All-tail}
 use Rattle.std.proofs.lemmas.Bool.Decides.{nat_tests}
 use Rattle.mm_definitions.proofs.Parts.{either_false}
@@ -88,8 +87,3 @@ pub spelled_ascii : (text : List ℕ) (z : ℤ) → SpellsNumber text z → IsAs
 spelled_ascii text z (inl (e, f)) = rw e (first_ascii 48 [] (omega arith) IsAscii-nil)
 spelled_ascii text z (inr (inl (h, f))) = lead_ascii text h
 spelled_ascii text z (inr (inr (d, e, h, f))) = rw e (first_ascii 45 d (omega arith) (lead_ascii d h))
-
--- a number that is not below 0 is its magnitude
-pub whole : (z : ℤ) → pos 0 ≤ℤ z → pos (nat_abs z) ≡ z
-whole (pos n) h = refl
-whole (negsuc n) h = absurd (omega (arith, ints, h))

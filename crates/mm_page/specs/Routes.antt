@@ -125,7 +125,7 @@ IsRowPath t i = IsName t × (n : ℤ) × page.SpellsWithin (pos 1) (pos LastId) 
 
 -- what the code's value asks for
 abbrev pub asked : Wanted → page.Wanted
-asked (wanted.Tile table zoom column row) = page.Tile table (pos zoom) (pos column) (pos row)
+asked (wanted.Tile table place) = page.Tile table (pos place.zoom) (pos place.column) (pos place.row)
 asked (wanted.Media table id) = page.Media table id
 asked (wanted.Related table id) = page.Related table id
 asked wanted.Contents = page.Contents

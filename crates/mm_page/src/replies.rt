@@ -89,12 +89,7 @@ pub fn reply<V: Viewer>(alloc: Global, viewer: &mut V, wanted: Wanted) -> Result
     ensures { Replies V.Viewer viewer.old viewer.new result (asked wanted) }
 {
     match wanted {
-        Wanted::Tile {
-            table,
-            zoom,
-            column,
-            row,
-        } => tile_reply(alloc, viewer, &table, TilePlace { zoom, column, row }),
+        Wanted::Tile { table, place } => tile_reply(alloc, viewer, &table, place),
         Wanted::Media { table, id } => media_reply(alloc, viewer, &table, id),
         Wanted::Related { table, id } => related_reply(alloc, viewer, &table, id),
         Wanted::Contents => contents_reply(alloc, viewer),

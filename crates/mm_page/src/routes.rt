@@ -14,6 +14,7 @@ use mm_definitions::answers::Fault;
 use mm_definitions::limits::{LAST_ID, LAST_PLACE, LAST_ZOOM};
 use mm_definitions::names::Name;
 use mm_definitions::numbers::read_number;
+use mm_definitions::places::TilePlace;
 use std::alloc::Global;
 
 /// What a route leads to.
@@ -40,23 +41,12 @@ fn page_router(alloc: Global) -> Result<Router<Route>, InsertError>
 /// What a path asks for.
 #[derive(Drop)]
 pub enum Wanted {
-    /// A tile of a pyramid, at a zoom from 0 to 30.
-    Tile {
-        table: Name,
-        zoom: u8,
-        column: u32,
-        row: u32,
-    },
+    /// A tile of a pyramid.
+    Tile { table: Name, place: TilePlace },
     /// A medium of a media table.
-    Media {
-        table: Name,
-        id: i64,
-    },
+    Media { table: Name, id: i64 },
     /// What an attribute row or medium is related to.
-    Related {
-        table: Name,
-        id: i64,
-    },
+    Related { table: Name, id: i64 },
     /// The tables of the package.
     Contents,
 }
@@ -98,12 +88,10 @@ fn tile_wanted(params: &Params<'_, '_>) -> Option<Wanted>
     let Some(row) = number_of(params, "r", 0, LAST_PLACE as i64) else {
         return None;
     };
-    Some(Wanted::Tile {
-        table,
-        zoom: zoom as u8,
-        column: column as u32,
-        row: row as u32,
-    })
+    match TilePlace::new(zoom, column, row) {
+        Some(place) => Some(Wanted::Tile { table, place }),
+        None => unreachable!(),
+    }
 }
 
 fn row_wanted(params: &Params<'_, '_>) -> Option<(Name, i64)>

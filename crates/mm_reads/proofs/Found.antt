@@ -49,8 +49,7 @@ module _ (rows : List Row) (ids : FinMap item_cmp MediumRow) (h : Holds past_row
       (subst (λ r. ShowsMedium r at.0) (sym at.4)
       (record {
         blob = columns_are at.2 (medium_row k at.0) 2 at.3;
-        content_type = columns_are at.2 (medium_row k at.0)
-            3 at.3;
+        content_type = columns_are at.2 (medium_row k at.0) 3 at.3;
       }))
 
   pub medium_found : (x first : Option Row) → x ≡ first → FindsRow (by_item k) medium_shown rows first

@@ -78,8 +78,7 @@ module _ (profile : Profile) {T U : Type 0} where
     survives = read.survives;
     seen = read.seen;
     settled = read.settled;
-    says = λ clean p meets it. so p
-        (read.says clean p meets it);
+    says = λ clean p meets it. so p (read.says clean p meets it);
     faults = tt;
   }
 

@@ -8,12 +8,13 @@ use Rattle.mm_definitions.specs.Keys.{Text, same_text, item, pairing}
 use Rattle.mm_definitions.specs.Parts.{at_value}
 use Rattle.mm_definitions.specs.Package.{Package, Relation, kind_text, has_kind}
 use Rattle.mm_definitions.specs.Rules.{Meets}
-use Rattle.mm_definitions.specs.Conditions.{least, smaller, own_reasons, is_taken, is_plain, related_kind, lacks_row}
-use Rattle.mm_definitions.specs.Conditions.{lacks_medium}
+use Rattle.mm_definitions.specs.Conditions.{least, smaller, own_reasons, piece_reasons, is_taken, is_plain}
+use Rattle.mm_definitions.specs.Conditions.{related_kind, lacks_row, lacks_medium}
 use Rattle.mm_definitions.specs.declared.commands.Kind.{Kind}
 use Rattle.mm_definitions.specs.declared.commands.Kind.TheVariants as kinds
 use Rattle.mm_definitions.specs.declared.commands.RelationName.{RelationName}
 use Rattle.mm_definitions.specs.declared.commands.Command.TheVariants as commands
+use Rattle.mm_definitions.specs.declared.commands.Piece.TheVariants as pieces
 use Rattle.mm_definitions.proofs.Parts.{some_of, not_none}
 use Rattle.mm_laws.proofs.Reasons.{none_holds}
 use Rattle.mm_definitions.proofs.FirstReason.{first_of}
@@ -189,7 +190,7 @@ module _ (p : Package) (mapping : Text) (base_id related_id : ℤ) where
       ∷ (41, at_value (λ (v : Relation). no_medium (ends v)) r) ∷ (44, not (is_some r)) ∷ (45, paired) ∷ [])
 
   abbrev why_map : Option ℕ
-  why_map = least (own_reasons p (commands.Map mapping base_id related_id))
+  why_map = least (piece_reasons p (pieces.Map mapping base_id related_id))
 
   pub map_44 : option_map ends (get p.relations mapping) ≡ None → Some 44 ≡ why_map
   map_44 none = sym (ap of_map (unrelated (get p.relations mapping) none) ∙ first_of 44 ((45, paired) ∷ []) refl)
@@ -229,7 +230,7 @@ module _ (p : Package) (mapping : Text) (base_id related_id : ℤ) where
 
   -- a mapping row that is not refused is new
   pub map_is_new : None ≡ why_map → contains_key p.pairings (pairing mapping base_id related_id) ≡ false
-  map_is_new none = (none_holds (own_reasons p (commands.Map mapping base_id related_id)) (sym none)).1.1.1.0
+  map_is_new none = (none_holds (piece_reasons p (pieces.Map mapping base_id related_id)) (sym none)).1.1.1.0
 
   -- ---- map-drop
 
@@ -237,7 +238,7 @@ module _ (p : Package) (mapping : Text) (base_id related_id : ℤ) where
   of_map_drop stands there = least ((44, not stands) ∷ (46, stands && not there) ∷ [])
 
   abbrev why_map_drop : Option ℕ
-  why_map_drop = least (own_reasons p (commands.MapDrop mapping base_id related_id))
+  why_map_drop = least (piece_reasons p (pieces.MapDrop mapping base_id related_id))
 
   pub map_drop_44 : contains_key p.relations mapping ≡ false → Some 44 ≡ why_map_drop
   map_drop_44 gone = sym (ap (λ b. of_map_drop b paired) gone)

@@ -2,9 +2,10 @@
 
 ghost use Rattle.std.specs.Prelude.{◌≡◌, None};
 ghost use Rattle.std.specs.FinMap.{get, contains_key, insert, remove};
-ghost use Rattle.mm_definitions.specs.Conditions.{least, own_reasons};
+ghost use Rattle.mm_definitions.specs.Conditions.{least, piece_reasons};
 ghost use Rattle.mm_definitions.specs.Keys.{pairing};
 ghost use Rattle.mm_definitions.specs.declared.commands.Command.TheVariants as commands;
+ghost use Rattle.mm_definitions.specs.declared.commands.Piece.TheVariants as pieces;
 ghost use Rattle.mm_store.specs.Handed.{Tells, Changes, ChangesWhere, Applies};
 
 use crate::ends::{ends_of, ends_refusal};
@@ -40,7 +41,7 @@ fn map_refusal<S: Alter>(
     related_id: i64,
 ) -> Result<Option<Reason>, Fault>
     ensures { Tells S.Store tx.old tx.new (λ p. least
-        (own_reasons p (commands.Map mapping.now base_id related_id))) result }
+        (piece_reasons p (pieces.Map mapping.now base_id related_id))) result }
 {
     let Some((base, related)) = ends_of(tx, mapping)? else {
         return Ok(Some(Reason::NO_RELATION));
@@ -83,7 +84,8 @@ pub fn add_map<S: Alter>(
     base_id: i64,
     related_id: i64,
 ) -> Result<Outcome, Fault>
-    ensures { Applies S.Store tx.old tx.new (commands.Map mapping.now base_id related_id) result }
+    ensures { Applies S.Store tx.old tx.new
+        (commands.Edit (pieces.Map mapping.now base_id related_id)) result }
 {
     let mapping = mapping.as_str();
     if let Some(number) = map_refusal(tx, mapping, base_id, related_id)? {
@@ -101,7 +103,7 @@ fn map_drop_refusal<S: Alter>(
     related_id: i64,
 ) -> Result<Option<Reason>, Fault>
     ensures { Tells S.Store tx.old tx.new (λ p. least
-        (own_reasons p (commands.MapDrop mapping.now base_id related_id))) result }
+        (piece_reasons p (pieces.MapDrop mapping.now base_id related_id))) result }
 {
     if !has_relation(tx, mapping)? {
         return Ok(Some(Reason::NO_RELATION));
@@ -139,7 +141,8 @@ pub fn drop_map<S: Alter>(
     base_id: i64,
     related_id: i64,
 ) -> Result<Outcome, Fault>
-    ensures { Applies S.Store tx.old tx.new (commands.MapDrop mapping.now base_id related_id)
+    ensures { Applies S.Store tx.old tx.new
+        (commands.Edit (pieces.MapDrop mapping.now base_id related_id))
         result }
 {
     let mapping = mapping.as_str();

@@ -225,8 +225,7 @@ zoom_is e v w = (
   λ (a, b, c, d). record {
     column_is = sym (words_maybe e.column) ∙ a;
     name_is = same_some b;
-    definition_is = same_some
-        c;
+    definition_is = same_some c;
     scope_is = same_some d;
   },
   λ h. (words_maybe e.column ∙ h.column_is, ap Some h.name_is, ap Some h.definition_is, ap Some h.scope_is),
@@ -263,8 +262,7 @@ zoom_one e t at h = λ i. record {
   table = at i;
   column = h.column_is i;
   name = h.name_is i;
-  definition = h.definition_is
-      i;
+  definition = h.definition_is i;
   scope = h.scope_is i;
 }
 

@@ -74,8 +74,7 @@ suited_is r v w = (
   λ h. record {
     base_is = h.base;
     related_is = related_to (λ a. a) (λ a. a) h.related;
-    base_column = same_some
-        h.base_column;
+    base_column = same_some h.base_column;
     related_column = same_some h.related_column;
   },
   λ h. record {

@@ -7,7 +7,8 @@ ghost use Rattle.mm_definitions.specs.Keys.{Text, item};
 ghost use Rattle.mm_definitions.specs.Package.{AttributeRow, Package};
 ghost use Rattle.mm_definitions.specs.Records.{Spells};
 ghost use Rattle.mm_definitions.specs.Rules.{Meets};
-ghost use Rattle.mm_definitions.specs.declared.commands.Command.TheVariants.{Row as WritesRow};
+ghost use Rattle.mm_definitions.specs.declared.commands.Command.TheVariants.{Edit};
+ghost use Rattle.mm_definitions.specs.declared.commands.Piece.TheVariants as pieces;
 ghost use Rattle.mm_io.specs.Records.{records_of};
 ghost use Rattle.mm_show.specs.Records.{row_fields, row_records};
 
@@ -22,5 +23,6 @@ pub fn what_is_printed_is_read_back()
 pub fn a_record_of_a_row_writes_it()
     ensures { (p : Package) (table : Text) (id : ℤ) (row : AttributeRow) → Meets current p
         → get p.rows (item table id) ≡ Some row
-        → Spells current (row_fields table (id, row)) (WritesRow table id row.title row.note row.amount) }
+        → Spells current (row_fields table (id, row))
+        (Edit (pieces.Row table id row.title row.note row.amount)) }
 {}

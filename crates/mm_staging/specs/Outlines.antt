@@ -9,8 +9,8 @@ use Rattle.mm_staging.specs.declared.outlines.Outline.TheVariants as outlines
 
 -- the piece that puts these bytes, if it puts any
 abbrev pub with_bytes : List ℕ → Outline → Piece
-with_bytes bytes (outlines.Tile table place) = pieces.Tile table place.zoom place.column place.row bytes
-with_bytes bytes (outlines.TileDrop table place) = pieces.TileDrop table place.zoom place.column place.row
+with_bytes bytes (outlines.Tile table place) = pieces.Tile table place bytes
+with_bytes bytes (outlines.TileDrop table place) = pieces.TileDrop table place
 with_bytes bytes (outlines.Row table id title note amount) = pieces.Row table id title note amount
 with_bytes bytes (outlines.RowDrop table id) = pieces.RowDrop table id
 with_bytes bytes (outlines.Media table id content_type) = pieces.Media table id content_type bytes

@@ -150,30 +150,23 @@ fn written_tile(piece: &Piece) -> Written<'_>
     match piece {
         Piece::Tile {
             table,
-            zoom,
-            column,
-            row,
+            place,
             bytes,
         } => Written {
             kind: "tile",
             name: table.as_str(),
-            k1: i64::from(zoom.get()),
-            k2: i64::from(column.get()),
-            k3: i64::from(row.get()),
+            k1: i64::from(place.zoom.get()),
+            k2: i64::from(place.column.get()),
+            k3: i64::from(place.row.get()),
             bytes: bytes.as_slice(),
             ..NONE
         },
-        Piece::TileDrop {
-            table,
-            zoom,
-            column,
-            row,
-        } => Written {
+        Piece::TileDrop { table, place } => Written {
             kind: "tile-drop",
             name: table.as_str(),
-            k1: i64::from(zoom.get()),
-            k2: i64::from(column.get()),
-            k3: i64::from(row.get()),
+            k1: i64::from(place.zoom.get()),
+            k2: i64::from(place.column.get()),
+            k3: i64::from(place.row.get()),
             ..NONE
         },
         _ => unreachable!(),

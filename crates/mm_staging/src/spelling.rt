@@ -24,9 +24,9 @@ fn place_in(numbers: Numbers) -> Option<TilePlace>
     }) }
 {
     Some(TilePlace {
-        zoom: Zoom::new(numbers.k1)?.get(),
-        column: Place::new(numbers.k2)?.get(),
-        row: Place::new(numbers.k3)?.get(),
+        zoom: Zoom::new(numbers.k1)?,
+        column: Place::new(numbers.k2)?,
+        row: Place::new(numbers.k3)?,
     })
 }
 

@@ -29,8 +29,7 @@ module _ (old new : State) (sql : List ℕ) (params : Row) where
       record {
         survives = asked.survives;
         on = asked.on;
-        gives = λ clean. let g =
-            asked.gives clean in (g.0, g.1, is ∙ ap is_some g.2);
+        gives = λ clean. let g = asked.gives clean in (g.0, g.1, is ∙ ap is_some g.2);
         faults = tt;
       }
 

@@ -129,12 +129,10 @@ contents = record {
         identifier = b i;
         description = c i;
         last_change = d i;
-        min_x = maybe_is v.min_x
-            w.min_x x i;
+        min_x = maybe_is v.min_x w.min_x x i;
         min_y = maybe_is v.min_y w.min_y y i;
         max_x = maybe_is v.max_x w.max_x z i;
-        max_y = maybe_is v.max_y
-            w.max_y t i;
+        max_y = maybe_is v.max_y w.max_y t i;
         system = maybe_is v.system w.system s i;
       };
   decides = λ k r l v is. first_text k r l _ is;
@@ -145,8 +143,7 @@ kinds = record {
   order = texts;
   key_is = λ k l v w e. cc;
   value_is = λ k l v w e. cc;
-  decides = λ k r l v is. first_text
-      k r l _ is;
+  decides = λ k r l v is. first_text k r l _ is;
 }
 
 pub sets : IsPart text_cmp past_rowid set_row by_text
@@ -259,8 +256,7 @@ editions = record {
   order = texts;
   key_is = λ k l v w e. cc;
   value_is = λ k l v w e. cc;
-  decides = λ k r l v is.
-      first_text k r l _ is;
+  decides = λ k r l v is. first_text k r l _ is;
 }
 
 pub pieces : IsPart piece_cmp past_rowid staged_row by_piece

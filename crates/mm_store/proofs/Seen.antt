@@ -27,8 +27,7 @@ settled_still profile old new p quiet clean same it =
       mode = at.mode;
       back = at.back;
       reads = at.reads;
-      left = λ db may. elim (quiet.crash clean db may)
-          [ inl before ↦ it.left db before | inr none ↦ absurd none ];
+      left = λ db may. elim (quiet.crash clean db may) [ inl before ↦ it.left db before | inr none ↦ absurd none ];
     }
 
 -- a transaction that was rolled back leaves what was seen

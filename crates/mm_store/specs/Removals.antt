@@ -40,8 +40,7 @@ abbrev pub kept_without_table : Text → Kept → Kept
 kept_without_table table kept =
     record kept {
       tiles = retain_keys kept.tiles (λ k. is_other table k.table);
-      media = retain_keys kept.media
-          (λ k. is_other table k.table);
+      media = retain_keys kept.media (λ k. is_other table k.table);
     }
 
 -- what is kept without the edition, and all blobs still

@@ -18,11 +18,9 @@ use std::fmt::Write;
 use std::test::Fail;
 
 /// Column 1, row 1 at zoom 1.
-const A_TILE: TilePlace = TilePlace {
-    zoom: 1,
-    column: 1,
-    row: 1,
-};
+fn a_place() -> Option<TilePlace> {
+    TilePlace::new(1, 1, 1)
+}
 
 /// Two files in memory; the log takes so many calls and then none.
 pub(crate) fn files_of(alloc: Global, calls: u64) -> Files<Fuse<Memory>> {
@@ -89,7 +87,7 @@ fn has_row<S: Alter>(session: &mut Session<S>, id: i64) -> Option<bool> {
 /// Whether the package has the tile.
 fn has_tile<S: Alter>(session: &mut Session<S>) -> Option<bool> {
     let base = Name::read("base")?;
-    Some(session.tile(&base, A_TILE).ok()?.is_some())
+    Some(session.tile(&base, a_place()?).ok()?.is_some())
 }
 
 /// What `stands_after` tells, of a session's package.

@@ -64,17 +64,15 @@ fn page_text<S: Alter>(alloc: Global, session: &mut Session<S>, request: &str) -
 }
 
 /// Column 1, row 1 at zoom 1.
-const A_TILE: TilePlace = TilePlace {
-    zoom: 1,
-    column: 1,
-    row: 1,
-};
+fn a_place() -> Option<TilePlace> {
+    TilePlace::new(1, 1, 1)
+}
 
 /// The fault of a read.
 fn read_fault<S: Alter>(alloc: Global, session: &mut Session<S>, read: &str) -> Option<Fault> {
     let table = Name::read("base")?;
     match read {
-        "tile" => session.tile(&table, A_TILE).err(),
+        "tile" => session.tile(&table, a_place()?).err(),
         "media" => session.media(&table, 3).err(),
         "row" => session.row(&table, 7).err(),
         "contents" => session.contents().err(),

@@ -16,11 +16,9 @@ use sqlite::{Alter, Connection};
 use std::alloc::Global;
 
 /// Column 1, row 1 at zoom 1.
-const A_TILE: TilePlace = TilePlace {
-    zoom: 1,
-    column: 1,
-    row: 1,
-};
+fn a_place() -> Option<TilePlace> {
+    TilePlace::new(1, 1, 1)
+}
 
 /// What the work told: how many of its steps, and whether it met no fault.
 #[derive(Clone, Copy, PartialEq, Eq)]
@@ -45,7 +43,7 @@ fn answers_92<S: Alter>(alloc: Global, session: &mut Session<S>) -> Option<bool>
     let ended = Fault::REOPEN;
     let all = session.list(&mut writer) == Err(ended)
         && session.check() == Err(ended)
-        && session.tile(&table, A_TILE).err() == Some(ended)
+        && session.tile(&table, a_place()?).err() == Some(ended)
         && session.media(&table, 3).err() == Some(ended)
         && session.row(&table, 7).err() == Some(ended)
         && session.contents().err() == Some(ended)

@@ -44,12 +44,12 @@ pub(crate) fn number(field: &str) -> Option<i64> {
     field.parse::<i64>().ok()
 }
 
-pub(crate) fn count(field: &str) -> Option<u32> {
-    field.parse::<u32>().ok()
+fn zoom(field: &str) -> Option<u8> {
+    field.parse::<u8>().ok()
 }
 
-pub(crate) fn zoom(field: &str) -> Option<u8> {
-    field.parse::<u8>().ok()
+pub(crate) fn place(zoom: &str, column: &str, row: &str) -> Option<TilePlace> {
+    TilePlace::new(number(zoom)?, number(column)?, number(row)?)
 }
 
 fn step(field: &str) -> Option<Step> {
@@ -182,21 +182,10 @@ fn call_tile<S: Alter>(
     let [table, level, column, row, bytes] = fields else {
         return None;
     };
-    let level = zoom(level)?;
-    let (column, row) = (count(column)?, count(row)?);
+    let place = place(level, column, row)?;
     let bytes = TileBytes::read(alloc, bytes).ok()?;
     let table = Name::read(table)?;
-    number_of(put_tile(
-        tx,
-        &table,
-        TilePlace {
-            zoom: level,
-            column,
-            row,
-        },
-        bytes.as_slice(),
-        last_change,
-    ))
+    number_of(put_tile(tx, &table, place, bytes.as_slice(), last_change))
 }
 
 fn call_tile_drop<S: Alter>(
@@ -207,14 +196,8 @@ fn call_tile_drop<S: Alter>(
     let [table, level, column, row] = fields else {
         return None;
     };
-    let level = zoom(level)?;
-    let (column, row) = (count(column)?, count(row)?);
+    let place = place(level, column, row)?;
     let table = Name::read(table)?;
-    let place = TilePlace {
-        zoom: level,
-        column,
-        row,
-    };
     number_of(drop_tile(tx, &table, place, last_change))
 }
 

@@ -1,6 +1,6 @@
 //! Questions to a package, and their answers: a line each, with a bar behind each value.
 
-use crate::commands::{count, fields_of, number, zoom};
+use crate::commands::{fields_of, number, place};
 use crate::rows::add_bytes;
 use mm_check::verify;
 use mm_content::{contents, media, row, tile};
@@ -8,7 +8,6 @@ use mm_definitions::answers::{Fault, Open, RuleNumber};
 use mm_definitions::commands::Kind;
 use mm_definitions::entries::{Entry, Media, Related, Row};
 use mm_definitions::names::Name;
-use mm_definitions::places::TilePlace;
 use mm_definitions::units::CURRENT;
 use mm_meta::{init, look};
 use mm_relate::related;
@@ -167,17 +166,11 @@ fn ask_tile<S: Alter>(conn: &mut Connection<S>, fields: &[&str], text: &mut Stri
     let [table, level, column, line] = fields else {
         return None;
     };
-    let level = zoom(level)?;
-    let (column, line) = (count(column)?, count(line)?);
+    let place = place(level, column, line)?;
     let table = Name::read(table)?;
     if !conn.is_autocommit() {
         return None;
     }
-    let place = TilePlace {
-        zoom: level,
-        column,
-        row: line,
-    };
     add_tile(text, &tile(conn, &table, place))
 }
 

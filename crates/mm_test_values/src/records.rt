@@ -4,6 +4,7 @@ use crate::lines::fields_of;
 use mm_base::{read_command, read_piece};
 use mm_definitions::answers::ReadFault;
 use mm_definitions::commands::{Command, Piece};
+use mm_definitions::places::TilePlace;
 use std::alloc::Global;
 use std::fmt::Write;
 
@@ -233,13 +234,15 @@ fn limits_the_bytes_of_tiles(rt: HostRuntime) {
 fn is_the_well(read: &Result<Command, ReadFault>) -> bool {
     match read {
         Ok(
-            Command::Row {
-                table,
-                id,
-                title,
-                note,
-                amount,
-            },
+            Command::Edit(
+                Piece::Row {
+                    table,
+                    id,
+                    title,
+                    note,
+                    amount,
+                },
+            ),
         ) => {
             table.as_str() == "spots"
                 && id.get() == 7
@@ -256,16 +259,12 @@ fn is_the_tile(read: &Result<Piece, ReadFault>) -> bool {
         Ok(
             Piece::Tile {
                 table,
-                zoom,
-                column,
-                row,
+                place,
                 bytes,
             },
         ) => {
             table.as_str() == "base"
-                && zoom.get() == 1
-                && column.get() == 2
-                && row.get() == 3
+                && Some(*place) == TilePlace::new(1, 2, 3)
                 && bytes.as_slice() == b"\xff\xd8".as_slice()
         }
         _ => false,

@@ -126,8 +126,7 @@ module _ {S V : Type 0} (g : Ghosts S) (takes : V → Row → V → Result Bool 
                   autocommit = undone.autocommit;
                   unmarked = undone.unmarked;
                   counts = record {
-                    changes = undone.counts.changes
-                        ∙ same.1.changes;
+                    changes = undone.counts.changes ∙ same.1.changes;
                     last_rowid = undone.counts.last_rowid ∙ same.1.last_rowid;
                   };
                 })
@@ -207,9 +206,7 @@ module _ {S V : Type 0} (g : Ghosts S) (takes : V → Row → V → Result Bool 
             gave_up fault step = record {
               mode = all_mode;
               survives = all_quiet;
-              walked =
-                  λ clean asks. inl (at_last (Err fault) step clean asks);
-              visits =
-                  (far.visited.0, inr (w, row, far.visited.1, step));
+              walked = λ clean asks. inl (at_last (Err fault) step clean asks);
+              visits = (far.visited.0, inr (w, row, far.visited.1, step));
               faults = inr (w, row, step);
             }

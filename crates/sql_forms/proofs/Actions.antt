@@ -49,8 +49,7 @@ rise_left (id ∷ ids) rows up = rise_left ids (without_rowid id rows) (ascendin
 rows_left : (ids : List ℤ) (rows : List Row) → AreRows rows → AreRows (without_all rows ids)
 rows_left ids rows up = record {
   rise = rise_left ids rows up.rise;
-  keyed = all_from _ (without_all rows ids)
-      (λ r h. all_has _ rows r up.keyed (without_all_has ids rows r h));
+  keyed = all_from _ (without_all rows ids) (λ r h. all_has _ rows r up.keyed (without_all_has ids rows r h));
 }
 
 -- none of the rowids is left
@@ -135,8 +134,7 @@ module _ (schema : Schema) (keys : Keys) (keep : Keep) (follows : Follows schema
         places = key.1;
         order = key.2;
         deed = deed;
-        moves = pairs
-            olds [];
+        moves = pairs olds [];
       }
 
       due : (d : Deed) → deed ≡ d → key.0 ≡ tree → FollowsAt keep child.tree ref (Some d) (Some key)

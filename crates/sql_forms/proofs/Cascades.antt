@@ -258,8 +258,7 @@ cascaded schema sql at table p place it old new v given (Ok count) ready same h 
       ready = record {
         schema_is = known;
         inside = h.1.mode;
-        rows = shrunk_rows schema at table it.placed keep follows
-            terms old new ready new.now.trees so;
+        rows = shrunk_rows schema at table it.placed keep follows terms old new ready new.now.trees so;
       };
       sound = w.sound;
       is_open = h.1.is_open;

@@ -208,8 +208,7 @@ module _ (schema : Schema) (sql : List ℕ) (at : ℕ) (table : Table) (terms : 
         ready = record {
           schema_is = made.0;
           inside = h.1.mode;
-          rows = shrunk_rows schema at table it.placed keep
-              follows terms old new ready new.now.trees so;
+          rows = shrunk_rows schema at table it.placed keep follows terms old new ready new.now.trees so;
         };
         sound = w.sound;
         is_open = h.1.is_open;

@@ -52,8 +52,7 @@ module _ (old new : State) where
   shows_keeps inside sql c params rows (Some what) h =
       record {
         was_open = λ _. h.1.shown.was_open;
-        committed = λ _. h.1.shown.committed_is
-            ∙ ap (λ b. cond b old.committed new.now) inside;
+        committed = λ _. h.1.shown.committed_is ∙ ap (λ b. cond b old.committed new.now) inside;
       }
 
   -- whether or not it fails

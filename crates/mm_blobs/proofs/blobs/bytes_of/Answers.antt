@@ -31,8 +31,7 @@ returns-in-Some g c = record {
 pub returns : goal.returns
 returns g c = record {
   same = search rules;
-  found = λ profile spare. move_untold _ _ _ _
-      (c.in_ok-row.ensures.found profile spare) (inr refl);
+  found = λ profile spare. move_untold _ _ _ _ (c.in_ok-row.ensures.found profile spare) (inr refl);
 }
 
 pub returns-in_err-row : goal.returns-in_err-row

@@ -3,13 +3,8 @@ use Rattle.std.proofs.lemmas.Int.{to_z-of_z}
 use mir.Val.{SFits}
 use Rattle.mm_core.proofs.dispatching.lay_out_pyramid.Goals as goal
 
-pub returns-in-Pyramid : goal.returns-in-Pyramid
-returns-in-Pyramid g c =
+pub returns : goal.returns
+returns g c =
     let srs_fits : SFits w64 c.get.result = search rules in
     let lent = simp to_z-of_z at (rw c.as_str.ensures.text at c.add_pyramid.ensures) in
     rw c.in-Pyramid.is (rw c.get.ensures.number at lent)
-
-pub returns-in-Matrix : goal.returns-in-Matrix
-returns-in-Matrix g c =
-    let lent = rw c.get-in-Matrix.ensures.number at c.add_matrix.ensures in
-    rw c.in-Matrix.is lent

@@ -9,11 +9,8 @@ returns-in-Srs g c = tries c.lay_out.ensures
 pub returns-in-Pyramid : goal.returns-in-Pyramid
 returns-in-Pyramid g c = tries c.lay_out_pyramid.ensures
 
-pub returns-in-Tile : goal.returns-in-Tile
-returns-in-Tile g c = tries c.change_tile.ensures
-
-pub returns-in-Row : goal.returns-in-Row
-returns-in-Row g c = tries c.change_item.ensures
+pub returns-in-Edit : goal.returns-in-Edit
+returns-in-Edit g c = rw c.in-Edit.is c.edit.ensures
 
 pub returns-in-Relation : goal.returns-in-Relation
 returns-in-Relation g c = tries_unstamped c.relate.ensures

@@ -29,10 +29,8 @@ returns g c = record {
       (moves_run profile old new _ _ no_spare (λ db. with_tree db 25 (without (by_text edition) (db 25)))
       (λ x. (z : ℤ) → FreedByPiecesAlone edition x.kept z → more z ≡ true)
       (λ x. record {
-        content = record (x.content)
-            { pieces = retain_keys x.content.pieces (λ k. is_other edition k.edition) };
-        kept = kept_without_edition edition
-            x.kept;
+        content = record (x.content) { pieces = retain_keys x.content.pieces (λ k. is_other edition k.edition) };
+        kept = kept_without_edition edition x.kept;
       }) more c.run.result c.run.ensures.run
       (λ count ready h. has_deleted _ _ _ _ _ statement.delete_pieces old new ready (Words edition ∷ []) _
       (search rules) (Ok count) h)

@@ -73,8 +73,7 @@ returns-in-Refused g c =
         still_kept = tt;
       };
       session = (refl, λ was. refl);
-      ended = λ was.
-          where_told _ _ (λ these tells. rw c.in-Refused.is at (c.in-Ok.ensures.lists these tells));
+      ended = λ was. where_told _ _ (λ these tells. rw c.in-Refused.is at (c.in-Ok.ensures.lists these tells));
       needed = tt;
       folder = c.in-Ok.ensures.fails;
       why = tt;

@@ -5,8 +5,7 @@ use Rattle.mm_layout.proofs.contents.touch.Goals as goal
 pub returns-then-not-branch : goal.returns-then-not-branch
 returns-then-not-branch g c = rw (← c.as_str-table.ensures.text) (rw c.refused.ensures
     (record {
-      goes = goes_as c.in_ok-has_table.ensures
-          (λ profile p when says. (refl, (sym says ∙ c.if-not-branch.true, refl)));
+      goes = goes_as c.in_ok-has_table.ensures (λ profile p when says. (refl, (sym says ∙ c.if-not-branch.true, refl)));
     }))
 
 pub returns-in_err-has_table : goal.returns-in_err-has_table

@@ -54,8 +54,7 @@ returns-in_err-is_taken g c =
     let p = err_from_is_err_and c.from_residual-in_err-is_taken.result c.from_residual-in_err-is_taken.ensures.1 in
     rw (p.1, p.2) (record {
       extent = tt;
-      refusal = failed (goes_on c.in_ok-has_system.ensures c.in_err-is_taken.ensures)
-          refl;
+      refusal = failed (goes_on c.in_ok-has_system.ensures c.in_err-is_taken.ensures) refl;
     })
 
 pub returns-then-branch-2 : goal.returns-then-branch-2

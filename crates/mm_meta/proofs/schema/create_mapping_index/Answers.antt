@@ -6,6 +6,5 @@ use Rattle.mm_meta.proofs.schema.create_mapping_index.Goals as goal
 pub returns : goal.returns
 returns g c = record {
   same = search rules;
-  made = indexes_one _ _ _ _ _ _ _ _ statement.mm_map_related refl _
-      c.run.ensures.run;
+  made = indexes_one _ _ _ _ _ _ _ _ statement.mm_map_related refl _ c.run.ensures.run;
 }

@@ -3,7 +3,6 @@ use Rattle.std.proofs.lemmas.Int.{to_z-of_z}
 use mir.Val.{SFits}
 use Rattle.matchit.specs.Params.{named}
 use Rattle.mm_page.proofs.AskFacts.{tile_only}
-use Rattle.mm_page.proofs.NumberFacts.{whole}
 use Rattle.mm_page.proofs.routes.tile_wanted.Goals as goal
 
 pub returns-in_default : goal.returns-in_default
@@ -30,19 +29,16 @@ returns g = λ t z c r h.
     let nz = g.in-Some-number_of.ensures.number z (h.0, ap (named (codes "z")) h.1) in
     let nc = g.in-Some-number_of-2.ensures.number c (h.0, ap (named (codes "c")) h.1) in
     let nr = g.in-Some-number_of-3.ensures.number r (h.0, ap (named (codes "r")) h.1) in
+    let at = g.in-Some-new.ensures.value in
     let fz : SFits w64 g.in-Some-number_of.zoom = search rules in
     let fc : SFits w64 g.in-Some-number_of-2.column = search rules in
     let fr : SFits w64 g.in-Some-number_of-3.row = search rules in
-    let wz = whole g.in-Some-number_of.zoom nz.1 in
-    let wc = whole g.in-Some-number_of-2.column nc.1 in
-    let wr = whole g.in-Some-number_of-3.row nr.1 in
     rw (
+      at.0,
+      at.1,
+      at.2,
       to_z-of_z w64 g.in-Some-number_of.zoom fz,
       to_z-of_z w64 g.in-Some-number_of-2.column fc,
-      to_z-of_z w64
-          g.in-Some-number_of-3.row fr,
-      wz,
-      wc,
-      wr,
+      to_z-of_z w64 g.in-Some-number_of-3.row fr,
       e,
     ) (z, c, r, refl, name, nz, nc, nr)

@@ -19,8 +19,7 @@ returns-in_err-blob g c = record {
       rw (p.1, p.2) (record {
         survives = commits_nothing _;
         on = λ clean base x it. it.back;
-        moved = λ clean base x it.
-            tt;
+        moved = λ clean base x it. tt;
         faults = c.in_err-blob.ensures.fault;
       });
 }
@@ -34,8 +33,7 @@ returns-in_err-content_type g c = record {
       rw (p.1, p.2) (record {
         survives = commits_nothing _;
         on = λ clean base x it. it.back;
-        moved = λ clean base x it.
-            tt;
+        moved = λ clean base x it. tt;
         faults = c.in_err-content_type.ensures.fault;
       });
 }

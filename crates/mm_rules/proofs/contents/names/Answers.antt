@@ -12,8 +12,7 @@ returns g c profile =
     (λ p limits. (
       λ apart. record {
         of_tables = λ k c is. (limits.contents k c is).table;
-        of_mappings =
-            λ k r is. ((limits.relations k r is).mapping, apart k r is);
+        of_mappings = λ k r is. ((limits.relations k r is).mapping, apart k r is);
         of_editions = λ k s is. (limits.editions k s is).0;
       },
       λ names k r is. (names.of_mappings k r is).1,

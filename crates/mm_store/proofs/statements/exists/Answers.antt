@@ -6,8 +6,7 @@ use Rattle.mm_store.proofs.statements.exists.Goals as goal
 pub returns : goal.returns
 returns g c = record {
   same = search rules;
-  asked = some_asked _ _ _ _ c.in_ok-row.row c.is_some.result
-      c.is_some.ensures c.in_ok-row.ensures.asked;
+  asked = some_asked _ _ _ _ c.in_ok-row.row c.is_some.result c.is_some.ensures c.in_ok-row.ensures.asked;
   failed = λ clean. tt;
 }
 

@@ -1,5 +1,6 @@
 -- The value of digits, one at a time.
-use Rattle.std.proofs.Common.{◌≡◌, ◌≤◌, ◌<◌, ◌+◌, ◌-◌, ◌*◌, ℕ, List, [], ◌∷◌, drop, length, refl, arith, ℤ, pos, ◌<ℤ◌}
+use Rattle.std.proofs.Common.{◌≡◌, ◌≤◌, ◌<◌, ◌+◌, ◌-◌, ◌*◌, ℕ, List, [], ◌∷◌, drop, length, refl, arith, ℤ, pos}
+use Rattle.std.proofs.Common.{◌<ℤ◌}
 use Rattle.std.proofs.Common.{◌⊎◌, inl, inr, Bool, true, false, FitsSigned, w64, ◌^◌, zero, suc}
 use Rattle.std.specs.Prelude.{get_or}
 use Rattle.std.proofs.lemmas.List.{drop_more}

@@ -1,5 +1,6 @@
 -- The rules that a whole package meets, Q1 to Q16. Each reads only the parts that it names.
-use Rattle.std.specs.Prelude.{◌≡◌, ◌≢◌, ℕ, ◌≤◌, ℤ, pos, negsuc, ◌+ℤ◌, ◌-ℤ◌, ◌*ℤ◌, ◌≤ℤ◌, ◌<ℤ◌, ◌⊎◌, List, [], Option}
+use Rattle.std.specs.Prelude.{◌≡◌, ◌≢◌, ℕ, ◌≤◌, ℤ, pos, negsuc, ◌+ℤ◌, ◌-ℤ◌, ◌*ℤ◌, ◌≤ℤ◌, ◌<ℤ◌}
+use Rattle.std.specs.Prelude.{◌⊎◌, List, [], Option}
 use Rattle.std.specs.Prelude.{Some, None, IfSome, codes, ⊤}
 use Rattle.std.specs.FinMap.{get}
 use Rattle.mm_definitions.specs.Bounds.{Profile, IsFrom, IsCoordinate, IsPixelSize, IsZoom, IsMatrixSide, IsTileSide}

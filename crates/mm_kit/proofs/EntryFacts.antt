@@ -1,6 +1,7 @@
 -- The entry of a record, and the least number that is against it.
 use Rattle.mm_definitions.specs.Bounds.{current}
-use Rattle.std.proofs.Common.{◌≡◌, ◌∙◌, ◌⊎◌, inl, inr, ◌<◌, ◌≤◌, ℕ, ℤ, pos, ◌≤ℤ◌, List, ◌∷◌, length, Option, Result, Ok}
+use Rattle.std.proofs.Common.{◌≡◌, ◌∙◌, ◌⊎◌, inl, inr, ◌<◌, ◌≤◌, ℕ, ℤ, pos, ◌≤ℤ◌, List, ◌∷◌, length}
+use Rattle.std.proofs.Common.{Option, Result, Ok}
 use Rattle.std.proofs.Common.{Err, Bool, true, false, refl, sym, ap, subst, arith}
 use Rattle.std.specs.Borrow.{Bor}
 use Rattle.mm_definitions.specs.Fields.{IsAgainst, Whole}

@@ -1,5 +1,6 @@
 -- What one turn of an import does to the pieces that stand.
-use Rattle.std.proofs.Common.{◌≡◌, ◌≢◌, ◌<◌, ◌≤◌, ◌+◌, ◌-◌, ◌∙◌, ◌⊎◌, inl, inr, ap, subst, ℕ, zero, suc, ℤ, pos, ◌≤ℤ◌}
+use Rattle.std.proofs.Common.{◌≡◌, ◌≢◌, ◌<◌, ◌≤◌, ◌+◌, ◌-◌, ◌∙◌, ◌⊎◌, inl, inr, ap, subst, ℕ, zero, suc}
+use Rattle.std.proofs.Common.{ℤ, pos, ◌≤ℤ◌}
 use Rattle.std.proofs.Common.{◌-ℤ◌, List, [], ◌∷◌, ◌++◌, length, Option, Some, None, is_some, Bool, true, false, refl}
 use Rattle.std.proofs.Common.{sym, arith, rules, append_assoc, append-nil, length-append}
 use Rattle.std.proofs.lemmas.Int.{ints}

@@ -1,5 +1,6 @@
 -- What one turn of a run does to what was answered, written and left so far.
-use Rattle.std.proofs.Common.{◌≡◌, ◌≢◌, ◌∙◌, ◌<◌, ◌≤◌, ◌+◌, ◌⊎◌, inl, inr, ℕ, List, [], ◌∷◌, ◌++◌, take, length, Option}
+use Rattle.std.proofs.Common.{◌≡◌, ◌≢◌, ◌∙◌, ◌<◌, ◌≤◌, ◌+◌, ◌⊎◌, inl, inr, ℕ, List, [], ◌∷◌, ◌++◌}
+use Rattle.std.proofs.Common.{take, length, Option}
 use Rattle.std.proofs.Common.{refl, sym, ap, subst, arith, Bool, true, add-zero, length-append}
 use Rattle.std.specs.Prelude.{get_or, if◌then◌else◌}
 use Rattle.std.proofs.KnownBytes.{Appends-nil, Appends-trans}

@@ -1,5 +1,6 @@
 -- What is written of the answers, and counted.
-use Rattle.std.specs.Prelude.{ℕ, ◌+◌, ◌<◌, ◌≤◌, ◌≡◌, ◌≢◌, ◌⊎◌, get_or, List, [], ◌∷◌, ◌++◌, true, Option, length, take}
+use Rattle.std.specs.Prelude.{ℕ, ◌+◌, ◌<◌, ◌≤◌, ◌≡◌, ◌≢◌, ◌⊎◌, get_or, List, [], ◌∷◌, ◌++◌, true, Option}
+use Rattle.std.specs.Prelude.{length, take}
 use Rattle.std.specs.List.{concat}
 use Rattle.std.specs.Io.KnownBytes.{Appends}
 use Rattle.mm_definitions.specs.declared.answers.Fault.{Fault}

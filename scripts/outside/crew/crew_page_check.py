@@ -1872,6 +1872,10 @@ def check_a_drawing_with_a_clear_ground(scene):
     expect_quiet(crew)
 
 
+# All that the state may count, in both tongues.
+COUNTS = "12 to send, 3 changed meanwhile, 1 refused, 2 not saved"
+COUNTS_IN_GERMAN = "12 zu senden, 3 inzwischen geändert, 1 abgelehnt, 2 nicht gespeichert"
+# The texts that don't stand out from their ground by 4.5 to 1.
 CONTRAST = """(() => {
   const parts = text => text.match(/[0-9.]+/g).map(Number);
   const light = ([r, g, b]) => [r, g, b].map(it => it / 255)
@@ -2072,11 +2076,12 @@ def check_small_screens_and_sunlight(scene):
         _, crew = scene.begin(width=wide, height=high, touch=True)
         crew.value("byId('fresh').click(); 0")
         whole = "(it => it.scrollWidth <= it.clientWidth && it.scrollHeight <= it.clientHeight)(byId('state'))"
-        expect(
-            crew.value(f"tellState('the package doesn\\'t answer', 'gone'), {whole}"),
-            True,
-            f"the state is told whole at {wide} pixels",
-        )
+        for state in ("the package doesn\\'t answer", COUNTS, COUNTS_IN_GERMAN):
+            expect(
+                crew.value(f"tellState('{state}', 'gone'), {whole}"),
+                True,
+                f"the state is told whole at {wide} pixels, {state!r}",
+            )
         sizes = crew.value(
             "['map', 'panel', 'edit', 'save'].map(it => byId(it).getBoundingClientRect()).map(it => [it.left, it.top,"
             " it.right, it.bottom])"

@@ -11,8 +11,8 @@
 #     scripts/outside.sh [PROGRAM]
 #
 # PROGRAM is the built program: without it the environment's MMPKG, or out/mmpkg, or else the one that the gate left in
-# crates/mm_cli/out. With WHOLE in the environment each growth of memory is refused, else as many as three minutes
-# allow.
+# crates/mm_cli/out. With WHOLE in the environment each growth of memory is refused and the power is cut ten times, else
+# as many growths as three minutes allow, and three cuts.
 set -u -o pipefail
 
 # shellcheck source=scripts/outside/lib/program.sh
@@ -97,11 +97,14 @@ want gdalinfo:gdal-bin gdal2tiles.py:python3-gdal "$modules/osgeo:python3-gdal"
 want "$modules/PIL:python3-pil" "$modules/piexif:python3-piexif"
 want chromium:chromium firefox-esr:firefox-esr /usr/share/javascript/leaflet/leaflet.min.js:libjs-leaflet
 want lintian:lintian debootstrap:debootstrap desktop-file-validate:desktop-file-utils
-want qemu-system-x86_64:qemu-system-x86 busybox:busybox-static /usr/sbin/mkfs.vfat:dosfstools mcopy:mtools cpio:cpio
+want qemu-system-x86_64:qemu-system-x86 modprobe:kmod busybox:busybox-static cpio:cpio
+want /usr/sbin/mkfs.vfat:dosfstools mcopy:mtools
 want shellcheck:shellcheck pyflakes3:pyflakes3 node:nodejs eslint:eslint tsc:node-typescript
 begin 'the example' example
 tell
-begin 'a power cut' scripts/outside/program/power_cut_check.py
+cuts=(--cuts 3)
+[ -z "${WHOLE:-}" ] || cuts=()
+begin 'a power cut' scripts/outside/program/power_cut_check.py "${cuts[@]}"
 begin 'the documents' scripts/outside/tree/check_docs.py
 begin 'the tables of its file' scripts/outside/program/compare_schema.sh "$folder/example.mmpkg"
 begin 'the page' scripts/outside/desk/page_curl.sh

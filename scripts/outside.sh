@@ -104,6 +104,8 @@ begin 'the example' example
 tell
 cuts=(--cuts 3)
 [ -z "${WHOLE:-}" ] || cuts=()
+# The longest, so it begins first.
+begin 'the page of a crew in Firefox' scripts/outside/crew/crew_page_check.py --browser firefox-esr
 begin 'a power cut' scripts/outside/program/power_cut_check.py "${cuts[@]}"
 begin 'the documents' scripts/outside/tree/check_docs.py
 begin 'the tables of its file' scripts/outside/program/compare_schema.sh "$folder/example.mmpkg"
@@ -131,7 +133,6 @@ begin 'the viewer' scripts/outside/viewer/viewer_check.py
 begin 'the viewer in Firefox' scripts/outside/viewer/viewer_check.py --browser firefox-esr
 begin "the core of the crew's page" scripts/outside/page/page_core.sh
 begin 'the page of a crew' scripts/outside/crew/crew_page_check.py
-begin 'the page of a crew in Firefox' scripts/outside/crew/crew_page_check.py --browser firefox-esr
 begin 'what drives the browsers' scripts/outside/lib/browsers_check.py
 begin 'what a crew was told' scripts/outside/days/page_told_check.py
 begin "days of a crew's page" scripts/outside/days/page_days.py --seconds 120

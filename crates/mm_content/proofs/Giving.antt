@@ -10,16 +10,16 @@ use Rattle.mm_definitions.specs.Package.{Package}
 use Rattle.mm_definitions.specs.declared.answers.Fault.{Fault}
 use Rattle.mm_store.specs.Blobs.{bytes_at}
 use Rattle.mm_definitions.specs.Faults.{store}
-use Rattle.mm_store.specs.Handed.{Changes, ChangesFor}
+use Rattle.mm_store.specs.Handed.{Changes}
 use Rattle.mm_store.specs.Kept.{no_spare}
 use Rattle.mm_blobs.specs.Entries.{spare_freed}
-use Rattle.mm_blobs.specs.Handed.{Finds, FindsFor, Names, Renames, Unnames, Gives, Keeps, ReleasesOpen}
+use Rattle.mm_blobs.specs.Handed.{Finds, Names, Renames, Unnames, Gives, Keeps, ReleasesOpen}
 use Rattle.mm_blobs.specs.Moves.{IsMove}
 use Rattle.mm_blobs.specs.Views.{View, IsSeen, spare_too, spare_but}
 use Rattle.mm_blobs.proofs.Moving.{then_moves, then_moves_open, then_failed, moves_where, move_failed}
 use Rattle.mm_blobs.proofs.Naming.{named_again}
 use Rattle.mm_blobs.proofs.Opening.{seen_looser}
-use Rattle.mm_blobs.proofs.Viewing.{changes_where, changes_all, move_gave_up, move_failed_all}
+use Rattle.mm_blobs.proofs.Viewing.{changes_all, move_failed_all}
 use Rattle.mm_blobs.proofs.Releasing.{commits_nothing}
 use Rattle.mm_content.proofs.Writing.{HasNamed, HasDone}
 
@@ -173,31 +173,3 @@ module _ {S : Type 0} {g : Ghosts S} where
     comes = λ clean profile ground p it when. tt;
     faults = inr refl;
   }
-
-  -- the blob of the bytes stands, and the entry names it
-  module _ {X : Type 0} {a b : Transaction S} {When : X → Package → Type 0} {Says : X → View → ℤ → Type 0} where
-    pub writes_for : {U : Type 0} {c : Transaction S} {blob : ℤ} {last : List ℕ → Package → Package}
-        {r : Result U Fault} → FindsFor g a b When Says (Ok blob) → Gives g b c blob last r → (bytes : X → List ℕ)
-        → ((x : X) (v : View) → Says x v blob → bytes_at v.kept.shelf blob ≡ Some (bytes x))
-        → ChangesFor g a c When (λ x. last (bytes x)) r
-    writes_for {c = c} {blob = blob} {last = last} {r = r} asked given bytes stands = record {
-      same = given.same ∙ asked.same;
-      goes = λ x. changes_where (given.same ∙ asked.same) (λ profile.
-          let s2 = state g c.conn.now in
-          then_moves
-          (λ base v _ w. (w.content ≡ last (bytes x) v.content) × IsSeen no_spare profile s2 base w) _ _ s2 blob r
-          (asked.found profile no_spare x) (given.given profile no_spare (bytes x))
-          (λ base v w it mid. (mid.1, stands x w mid.2))
-          (λ base v w z u it mid end. (
-            end.0 ∙ ap (λ (o : View). last (bytes x) o.content) mid.0,
-            seen_looser
-                (spare_but blob no_spare) no_spare profile s2 base z (λ q h. h) end.1,
-          )));
-    }
-
-    pub writes_not_for : {U : Type 0} {next : X → Package → Package} {e : Fault} {r : Result U Fault}
-        → FindsFor g a b When Says (Err e) → IsErrAnd r (λ f. f ≡ e) → ChangesFor g a b When next r
-    writes_not_for h is = record {
-      same = h.same;
-      goes = λ x. move_gave_up h.same (λ profile. h.found profile no_spare x) is (λ profile p it. it);
-    }

@@ -1,10 +1,7 @@
--- A staged piece whose bytes a command puts.
-use Rattle.std.specs.Prelude.{◌≡◌, ℕ, pos, List, Some}
-use Rattle.std.specs.FinMap.{get}
-use Rattle.mm_definitions.specs.Keys.{Text, piece}
-use Rattle.mm_definitions.specs.Package.{Package, PieceRow}
+-- A blob whose bytes a command puts.
+use Rattle.std.specs.Prelude.{◌≡◌, ℕ, ℤ, List, Some}
+use Rattle.mm_store.specs.Blobs.{Shelf, bytes_at}
 
--- the edition's piece of the number has these bytes
-abbrev pub HasBytes : Text → ℕ → List ℕ → Package → Type 0
-HasBytes edition number bytes p = (r : PieceRow) × (get p.pieces (piece edition (pos number)) ≡ Some r)
-    × (r.bytes ≡ bytes)
+-- the blob of the id stands on the shelf, and has these bytes
+abbrev pub HasBytes : ℤ → List ℕ → Shelf → Type 0
+HasBytes blob bytes shelf = bytes_at shelf blob ≡ Some bytes

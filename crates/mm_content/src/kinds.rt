@@ -7,6 +7,7 @@ ghost use Rattle.mm_definitions.specs.Keys.{same_text};
 ghost use Rattle.mm_definitions.specs.Package.{kind_text, has_kind, is_pyramid};
 ghost use Rattle.mm_definitions.specs.declared.commands.Kind.TheVariants as kinds;
 ghost use Rattle.mm_store.specs.Handed.{FindsRefusal};
+ghost use Rattle.mm_layout.specs.Handed.{LeavesView};
 
 use mm_definitions::answers::Fault;
 use mm_definitions::commands::{Kind, PlainKind};
@@ -30,9 +31,10 @@ pub(crate) fn plain_refusal<S: Alter>(
     table: &str,
     asked: PlainKind,
 ) -> Result<Option<Reason>, Fault>
-    ensures { FindsRefusal S.Store tx.old tx.new
+    ensures told { FindsRefusal S.Store tx.old tx.new
         (λ p. no_table p table.now ∷ of_another_kind p table.now
         (has_kind p.kinds table.now (plain_kind asked)) ∷ []) result }
+    ensures leaves { LeavesView S.Store tx.old tx.new result }
 {
     let Some(kind) = kind_of(tx, table)? else {
         return Ok(Some(Reason::NO_TABLE));
@@ -61,9 +63,10 @@ pub(crate) fn pyramid_refusal<S: Alter>(
     tx: &mut Transaction<'_, S>,
     table: &str,
 ) -> Result<Option<Reason>, Fault>
-    ensures { FindsRefusal S.Store tx.old tx.new
+    ensures told { FindsRefusal S.Store tx.old tx.new
         (λ p. no_table p table.now ∷ of_another_kind p table.now (is_pyramid p.kinds table.now)
         ∷ []) result }
+    ensures leaves { LeavesView S.Store tx.old tx.new result }
 {
     let Some(kind) = kind_of(tx, table)? else {
         return Ok(Some(Reason::NO_TABLE));

@@ -10,7 +10,7 @@ ghost use Rattle.mm_definitions.specs.declared.commands.Piece.TheVariants as pie
 ghost use Rattle.mm_blobs.specs.Entries.{with_tile, without_tile, tile_names};
 ghost use Rattle.mm_definitions.specs.Places.{tile_at};
 ghost use Rattle.mm_store.specs.Handed.{Tells, Changes, FindsRefusal};
-ghost use Rattle.mm_layout.specs.Handed.{Lends};
+ghost use Rattle.mm_layout.specs.Handed.{Lends, LeavesView};
 ghost use Rattle.mm_blobs.specs.Handed.{Names, Renames, Unnames, Gives};
 
 use crate::kinds::pyramid_refusal;
@@ -31,9 +31,10 @@ fn sides_at<S: Alter>(
     table: &str,
     zoom: Zoom,
 ) -> Result<Option<(i64, i64)>, Fault>
-    ensures { Tells S.Store tx.old tx.new (λ p. option_map
+    ensures told { Tells S.Store tx.old tx.new (λ p. option_map
         (λ (g : Grid). (g.matrix_width, g.matrix_height))
         (get p.matrices (level table.now (pos zoom)))) result }
+    ensures leaves { LeavesView S.Store tx.old tx.new result }
 {
     first_pair(
         tx,
@@ -208,7 +209,8 @@ pub(crate) fn tile_refusal<S: Alter>(
     table: &str,
     place: &TilePlace,
 ) -> Result<Option<Reason>, Fault>
-    ensures { FindsRefusal S.Store tx.old tx.new (tile_reasons table.now place.now) result }
+    ensures told { FindsRefusal S.Store tx.old tx.new (tile_reasons table.now place.now) result }
+    ensures leaves { LeavesView S.Store tx.old tx.new result }
 {
     if let Some(number) = pyramid_refusal(tx, table)? {
         return Ok(Some(number));

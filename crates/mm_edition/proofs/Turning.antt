@@ -1,10 +1,11 @@
 -- How the look for a piece and the call that it is taken as make one turn of publishing.
-use Rattle.std.proofs.Common.{◌≡◌, ℕ, pos, [], Option, Some, None, option_map, Result, Ok, Err, refl, sym, ap, subst}
+use Rattle.std.proofs.Common.{◌≡◌, ℕ, pos, Option, Some, None, Result, Ok, Err, refl, sym, ap, subst}
 use Rattle.std.proofs.Common.{◌∙◌}
 use Rattle.std.specs.Prelude.{IsErrAnd}
 use Rattle.std.specs.FinMap.{get}
 use Rattle.sqlite.specs.Store.{Ghosts}
 use Rattle.sqlite.specs.declared.transaction.Transaction.{Transaction}
+use Rattle.mm_definitions.specs.Bounds.{Profile}
 use Rattle.mm_definitions.specs.Keys.{Text, piece}
 use Rattle.mm_definitions.specs.Package.{Package}
 use Rattle.mm_definitions.specs.Pieces.{piece_row}
@@ -22,16 +23,17 @@ use Rattle.mm_definitions.specs.declared.commands.Piece.{Piece}
 use Rattle.mm_definitions.specs.declared.commands.Piece.TheVariants as pieces
 use Rattle.mm_laws.proofs.Published.{read_back}
 use Rattle.mm_store.specs.Shapes.{refused_as}
-use Rattle.mm_store.specs.Handed.{Goes, LooksByRules}
-use Rattle.mm_store.proofs.Going.{goes_as, goes_given, failed, failed_where}
+use Rattle.mm_store.specs.Handed.{Goes, Looks}
+use Rattle.mm_store.proofs.Going.{goes_as, goes_given, failed_where}
+use Rattle.mm_blobs.proofs.Viewing.{looks_of, finds_as, finds_failed}
 use Rattle.mm_layout.specs.Stamped.{step_at}
-use Rattle.mm_layout.specs.Handed.{LendsFor}
-use Rattle.mm_staging.specs.Outlines.{with_bytes, IsOutlined}
+use Rattle.mm_layout.specs.Handed.{FindsByRules, LendsBytes}
+use Rattle.mm_staging.specs.Outlines.{with_bytes, HoldsBytes, IsOutlined}
 use Rattle.mm_staging.specs.declared.outlines.Outline.{Outline}
-use Rattle.mm_edition.specs.Turns.{HoldsPiece, piece_given, row_given, after_turn, TellsPieceTurn, TakesTurn}
+use Rattle.mm_edition.specs.Turns.{piece_given, row_given, after_turn, TellsPieceTurn, TakesTurn}
 use Rattle.mm_edition.specs.declared.running.Turn.{Turn}
 use Rattle.mm_edition.specs.declared.running.Turn.TheVariants.{Done, End, Refused}
-use Rattle.mm_edition.proofs.Lending.{goes_for}
+use Rattle.mm_edition.proofs.Lending.{finds_then_lends}
 
 -- ---- a piece as its command
 
@@ -78,26 +80,30 @@ module _ (edition : Text) (number : ℕ) (at : Text) where
 module _ {S : Type 0} (g : Ghosts S) (old new : Transaction S) (edition : Text) (number : ℕ) where
   -- the look for the piece
   abbrev Found : Result (Option Outline) Fault → Type 0
-  Found = LooksByRules g old new (λ p found. IsOutlined (get p.pieces (piece edition (pos number))) found)
+  Found = FindsByRules g old new (λ v found. IsOutlined v.kept.shelf (get v.content.pieces (piece edition (pos number)))
+      found)
 
   -- the command that it is taken as
   abbrev Taken : Outline → Text → Result Outcome Fault → Type 0
-  Taken outline at = LendsFor g old new (HoldsPiece edition number outline)
-      (λ bytes. commands.Edit (with_bytes bytes outline)) at
+  Taken outline at = LendsBytes g old new (HoldsBytes outline) (λ bytes. commands.Edit (with_bytes bytes outline)) at
 
 module _ {S : Type 0} {g : Ghosts S} {a b : Transaction S} {edition : Text} {number : ℕ} {at : Text} where
   pub turn_ends : {found : Option Outline} → Found g a b edition number (Ok found) → found ≡ None
       → TakesTurn g a b edition number at (Ok End)
-  turn_ends look none = record {
-    goes = goes_as (goes_given look (λ profile p meets. tt))
-        (λ profile p meets says. let told =
-        says meets in (refl, told.1 ∙ ap (option_map (λ (it : Outline). piece_row (with_bytes told.0 it))) none));
-  }
+  turn_ends {found = found} look none =
+      let key = piece edition (pos number) in
+      let read : Looks g a b (λ p it. (profile : Profile) → Meets profile p → get p.pieces key ≡ None) (Ok found) =
+      looks_of (finds_as look (λ v says profile meets. subst (IsOutlined v.kept.shelf (get v.content.pieces key)) none
+      (says profile meets))) in
+      record {
+        goes = goes_as (goes_given read (λ profile p meets. tt))
+            (λ profile p meets says. (refl, says profile meets));
+      }
 
   pub turn_looked_in_vain : {e : Fault} {r : Result Turn Fault} → Found g a b edition number (Err e)
       → IsErrAnd r (λ f. f ≡ e)
       → TakesTurn g a b edition number at r
-  turn_looked_in_vain look is = record { goes = failed look is }
+  turn_looked_in_vain look is = record { goes = finds_failed look is }
 
 -- ---- the piece is taken as its command
 
@@ -107,11 +113,10 @@ module _ {S : Type 0} {g : Ghosts S} {a b c : Transaction S} {found : Option Out
       → Taken g b c edition number outline at r
       → Goes g a c Meets (λ p it. after_turn edition number at p (as_turn it))
       (λ profile p it. TellsPieceTurn edition number p (as_turn it)) r
-  took edition number at look is taken = goes_for (goes_given look (λ profile p meets. tt)) [] taken.goes
-      (λ profile p meets says.
-      let told = says meets in
-      let there = told.1 ∙ ap (option_map (λ (it : Outline). piece_row (with_bytes told.0 it))) is in
-      (told.0, (meets, there), λ it more. command_turn edition number at p (with_bytes told.0 outline) it there more))
+  took edition number at look is taken = finds_then_lends look taken (λ profile v meets says.
+      let told = subst (IsOutlined v.kept.shelf (get v.content.pieces (piece edition (pos number)))) is
+      (says profile meets) in
+      (told.0, told.1, λ it more. command_turn edition number at v.content (with_bytes told.0 outline) it told.2 more))
 
   module _ {edition : Text} {number : ℕ} {at : Text} where
     pub turn_taken : {it : Outcome} {turn : Turn} → Found g a b edition number (Ok found) → found ≡ Some outline

@@ -1,5 +1,5 @@
 -- What becomes of one piece that is published, and of all of them.
-use Rattle.std.specs.Prelude.{◌≡◌, ℕ, pos, List, Option, Some, None, Result, Ok, Err, IsTrue, IfOk, IfErr}
+use Rattle.std.specs.Prelude.{◌≡◌, ℕ, pos, Option, Some, None, Result, Ok, Err, IsTrue, IfOk, IfErr}
 use Rattle.std.specs.FinMap.{get}
 use Rattle.sqlite.specs.Held.{state}
 use Rattle.sqlite.specs.State.{State, HasCleanDisk}
@@ -25,15 +25,8 @@ use Rattle.mm_store.specs.Shapes.{Tries}
 use Rattle.mm_definitions.specs.Faults.{IsStoreFault}
 use Rattle.mm_store.specs.Handed.{IsSame, Goes}
 use Rattle.mm_store.specs.Statements.{CommitsNothing}
-use Rattle.mm_staging.specs.Outlines.{with_bytes}
-use Rattle.mm_staging.specs.declared.outlines.Outline.{Outline}
 use Rattle.mm_edition.specs.declared.running.Turn.{Turn}
 use Rattle.mm_edition.specs.declared.running.Turn.TheVariants.{Done, End, Refused}
-
--- the edition's piece of the number is this one, with these bytes
-abbrev pub HoldsPiece : Text → ℕ → Outline → List ℕ → Package → Type 0
-HoldsPiece edition number outline bytes p = get p.pieces (piece edition (pos number))
-    ≡ Some (piece_row (with_bytes bytes outline))
 
 -- the package after a piece, if there is one, with this text as last_change
 abbrev pub piece_given : Package → Text → Option Piece → Package

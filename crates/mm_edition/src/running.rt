@@ -3,9 +3,9 @@
 ghost use Rattle.std.specs.Prelude.{◌≡◌, ℕ, List, [], true};
 ghost use Rattle.mm_definitions.specs.PieceGroups.{changes_tile, changes_item, changes_mapping, puts_matrix};
 ghost use Rattle.mm_definitions.specs.declared.commands.Command.TheVariants as commands;
-ghost use Rattle.mm_staging.specs.Outlines.{with_bytes};
-ghost use Rattle.mm_layout.specs.Handed.{Lends, LendsFor, LendsUnstamped};
-ghost use Rattle.mm_edition.specs.Turns.{HoldsPiece, TakesTurn};
+ghost use Rattle.mm_staging.specs.Outlines.{with_bytes, HoldsBytes};
+ghost use Rattle.mm_layout.specs.Handed.{Lends, LendsBytes, LendsUnstamped};
+ghost use Rattle.mm_edition.specs.Turns.{TakesTurn};
 
 use mm_content::{drop_media, drop_row, drop_tile, put_media_of_piece, put_row, put_tile_of_piece};
 use mm_definitions::answers::{Fault, Outcome};
@@ -24,26 +24,23 @@ pub(crate) enum Turn {
     Refused(Reason),
 }
 
-/// Puts or removes the tile of the piece of a number. One that is put names the piece's blob. `last_change` is the
-/// stamp of the moment.
+/// Puts or removes the tile of a piece. One that is put names the piece's blob. `last_change` is the stamp of the
+/// moment.
 fn run_tile<S: Alter>(
     tx: &mut Transaction<'_, S>,
-    edition: &Name,
-    number: u32,
     outline: &Outline,
     last_change: &str,
 ) -> Result<Outcome, Fault>
     requires { changes_tile (with_bytes [] outline.now) ≡ true }
-    ensures { LendsFor S.Store tx.old tx.new (HoldsPiece edition.now number outline.now)
+    ensures { LendsBytes S.Store tx.old tx.new (HoldsBytes outline.now)
         (λ bytes. commands.Edit (with_bytes bytes outline.now)) last_change.now result }
 {
     match outline {
-        Outline::Tile { table, place } => put_tile_of_piece(
+        Outline::Tile { table, place, blob } => put_tile_of_piece(
             tx,
             table,
             *place,
-            edition,
-            number,
+            *blob,
             last_change,
         ),
         Outline::TileDrop { table, place } => drop_tile(tx, table, *place, last_change),
@@ -51,17 +48,15 @@ fn run_tile<S: Alter>(
     }
 }
 
-/// Puts or removes the attribute row or medium of the piece of a number. A medium that is put names the piece's blob.
-/// `last_change` is the stamp of the moment.
+/// Puts or removes the attribute row or medium of a piece. A medium that is put names the piece's blob. `last_change` is
+/// the stamp of the moment.
 fn run_item<S: Alter>(
     tx: &mut Transaction<'_, S>,
-    edition: &Name,
-    number: u32,
     outline: &Outline,
     last_change: &str,
 ) -> Result<Outcome, Fault>
     requires { changes_item (with_bytes [] outline.now) ≡ true }
-    ensures { LendsFor S.Store tx.old tx.new (HoldsPiece edition.now number outline.now)
+    ensures { LendsBytes S.Store tx.old tx.new (HoldsBytes outline.now)
         (λ bytes. commands.Edit (with_bytes bytes outline.now)) last_change.now result }
 {
     match outline {
@@ -85,13 +80,13 @@ fn run_item<S: Alter>(
             table,
             id,
             content_type,
+            blob,
         } => put_media_of_piece(
             tx,
             table,
             id.get(),
             content_type.as_str(),
-            edition,
-            number,
+            *blob,
             last_change,
         ),
         Outline::MediaDrop { table, id } => drop_media(tx, table, id.get(), last_change),
@@ -140,29 +135,21 @@ fn run_matrix<S: Alter>(
     }
 }
 
-/// Does what the piece of a number says within the transaction. `last_change` is the stamp of the moment.
+/// Does what a piece says within the transaction. `last_change` is the stamp of the moment.
 fn run_piece<S: Alter>(
     tx: &mut Transaction<'_, S>,
-    edition: &Name,
-    number: u32,
     outline: &Outline,
     last_change: &str,
 ) -> Result<Outcome, Fault>
-    ensures { LendsFor S.Store tx.old tx.new (HoldsPiece edition.now number outline.now)
+    ensures { LendsBytes S.Store tx.old tx.new (HoldsBytes outline.now)
         (λ bytes. commands.Edit (with_bytes bytes outline.now)) last_change.now result }
 {
     match outline {
-        Outline::Tile { .. } | Outline::TileDrop { .. } => run_tile(
-            tx,
-            edition,
-            number,
-            outline,
-            last_change,
-        ),
+        Outline::Tile { .. } | Outline::TileDrop { .. } => run_tile(tx, outline, last_change),
         Outline::Row { .. }
         | Outline::RowDrop { .. }
         | Outline::Media { .. }
-        | Outline::MediaDrop { .. } => run_item(tx, edition, number, outline, last_change),
+        | Outline::MediaDrop { .. } => run_item(tx, outline, last_change),
         Outline::Map { .. } | Outline::MapDrop { .. } => run_mapping(tx, outline),
         Outline::Matrix { .. } => run_matrix(tx, outline, last_change),
     }
@@ -180,7 +167,7 @@ pub(crate) fn try_piece<S: Alter>(
     let Some(outline) = outline_of(tx, edition, number)? else {
         return Ok(Turn::End);
     };
-    match run_piece(tx, edition, number, &outline, last_change)? {
+    match run_piece(tx, &outline, last_change)? {
         Outcome::Done => Ok(Turn::Done),
         Outcome::Refused(why) => Ok(Turn::Refused(why.reason())),
     }

@@ -5,3 +5,5 @@ pub mod Freeing
 pub mod Joined
 pub mod Lending
 pub mod Stamped
+pub mod Leaving
+pub mod Views

@@ -5,6 +5,7 @@ ghost use Rattle.std.specs.FinMap.{get, insert};
 ghost use Rattle.mm_definitions.specs.Effects.{plain_kind, step_kind};
 ghost use Rattle.mm_definitions.specs.Package.{kind_text};
 ghost use Rattle.mm_store.specs.Handed.{Looks, ChangesWhere};
+ghost use Rattle.mm_layout.specs.Handed.{LeavesView};
 
 use mm_definitions::answers::Fault;
 use mm_definitions::commands::{Kind, PlainKind, Step};
@@ -33,8 +34,9 @@ pub(crate) fn text_of_step(step: Step) -> &'static str
 
 /// What the registry writes of a table.
 fn registered<S: Alter>(tx: &mut Transaction<'_, S>, table: &str) -> Result<Option<String>, Fault>
-    ensures { Looks S.Store tx.old tx.new (λ p text. get p.kinds table.now ≡ option_map string_bytes
-        text) result }
+    ensures told { Looks S.Store tx.old tx.new (λ p text. get p.kinds table.now
+        ≡ option_map string_bytes text) result }
+    ensures leaves { LeavesView S.Store tx.old tx.new result }
 {
     first_text(
         tx,
@@ -45,8 +47,9 @@ fn registered<S: Alter>(tx: &mut Transaction<'_, S>, table: &str) -> Result<Opti
 
 /// The kind of a table, where it is registered. A text that is no kind is a fault, 91.
 pub fn kind_of<S: Alter>(tx: &mut Transaction<'_, S>, table: &str) -> Result<Option<Kind>, Fault>
-    ensures { Looks S.Store tx.old tx.new (λ p kind. get p.kinds table.now ≡ option_map kind_text
-        kind) result }
+    ensures told { Looks S.Store tx.old tx.new (λ p kind. get p.kinds table.now
+        ≡ option_map kind_text kind) result }
+    ensures leaves { LeavesView S.Store tx.old tx.new result }
 {
     match registered(tx, table)? {
         Some(text) => match Kind::named(text.as_str()) {

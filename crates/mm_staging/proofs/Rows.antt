@@ -18,7 +18,7 @@ use Rattle.mm_store.specs.Kept.{piece_id, piece_with}
 use Rattle.mm_store.specs.Rows.{past_rowid, maybe, StagedRow, staged_row}
 use Rattle.mm_store.proofs.Parts.{finds_none, finds_some}
 use Rattle.mm_store.proofs.Keys as parts
-use Rattle.mm_store.proofs.Keys.{by_piece, by_text}
+use Rattle.mm_store.proofs.Keys.{by_piece, by_text, maybe_is}
 use Rattle.mm_staging.specs.Kept.{Shows, IsPieceRow}
 use Rattle.sqlite.specs.Held.{state}
 use Rattle.sqlite.specs.Store.{Ghosts}
@@ -113,14 +113,15 @@ row_tells shelf (Some r) entry shown a is told s stands =
     told.2 ∙ ap Some (one_piece shown (piece_with r told.0) a row s
     (one_bytes shelf r.blob told.0 a.bytes told.1 (stands r.blob is.1)))
 
--- whatever its bytes are
+-- whatever the bytes of its blob are
 pub row_keeps : (shelf : Shelf) (o : Option StagedRow) (entry : Option PieceRow) (shown : Row) (a : PieceRow)
-    → IsPieceRow o (Some shown)
-    → Told piece_id piece_with shelf o entry → Shows shown a → (bytes : List ℕ)
-    × (entry ≡ Some (record a { bytes = bytes }))
-row_keeps shelf None entry shown a is told s = absurd is
-row_keeps shelf (Some r) entry shown a is told s = (
+    (blob : Option ℤ) → IsPieceRow o (Some shown)
+    → Told piece_id piece_with shelf o entry → Shows shown a → column shown 11 ≡ maybe blob
+    → (bytes : List ℕ) × StandsAt shelf blob bytes × (entry ≡ Some (record a { bytes = bytes }))
+row_keeps shelf None entry shown a blob is told s named = absurd is
+row_keeps shelf (Some r) entry shown a blob is told s named = (
   told.0,
+  subst (λ o. StandsAt shelf o told.0) (maybe_is r.blob blob (sym is.1 ∙ named)) told.1,
   told.2 ∙ ap Some
       (one_piece shown (piece_with r told.0) (record a { bytes = told.0 })
       (shown_with shown (piece_with r []) told.0 is.0) (shown_with shown a told.0 s) refl),

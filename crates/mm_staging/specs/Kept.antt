@@ -1,9 +1,10 @@
 -- A staged piece as its row holds it, and what a row shows of it.
-use Rattle.std.specs.Prelude.{◌≡◌, ℕ, ℤ, List, [], string_bytes, Option, Some, None, option_map, ⊤}
+use Rattle.std.specs.Prelude.{◌≡◌, ℕ, ℤ, List, [], string_bytes, Option, Some, None, ⊤}
 use Rattle.std.specs.declared.vec.Vec.{Vec}
 use Rattle.sqlite.specs.declared.types.Value.TheVariants.{Int, Text as Words}
 use Rattle.sqlite.specs.Order.{Row, column}
 use Rattle.mm_definitions.specs.Package.{PieceRow}
+use Rattle.mm_store.specs.Blobs.{Shelf, StandsAt}
 use Rattle.mm_store.specs.Rows.{maybe, StagedRow}
 use Rattle.mm_store.specs.Kept.{Spare, piece_with}
 use Rattle.mm_blobs.specs.Views.{spare_but}
@@ -37,9 +38,11 @@ kept_with bytes k = record {
 abbrev pub kept_row : Kept → PieceRow
 kept_row k = kept_with (bytes_or_none k.bytes) k
 
--- the entry is the row that was read, with the bytes that it has; where none was read there is no entry
-abbrev pub IsKeptRow : Option PieceRow → Option Kept → Type 0
-IsKeptRow entry kept = (bytes : List ℕ) × (entry ≡ option_map (kept_with bytes) kept)
+-- the entry is the row that was read, with the bytes of the blob that it names; where none was read there is no entry
+abbrev pub IsKeptRow : Shelf → Option PieceRow → Option Kept → Type 0
+IsKeptRow shelf entry None = entry ≡ None
+IsKeptRow shelf entry (Some kept) = (bytes : List ℕ) × StandsAt shelf kept.blob bytes
+    × (entry ≡ Some (kept_with bytes kept))
 
 -- the row that is to be written
 abbrev pub written_row : Written → PieceRow

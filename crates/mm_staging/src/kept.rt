@@ -3,6 +3,8 @@
 ghost use Rattle.std.specs.Prelude.{◌≡◌, ◌↔◌, IfOk, IsTrue, true, pos, []};
 ghost use Rattle.mm_definitions.specs.PieceGroups.{changes_tile, changes_item, changes_mapping, puts_matrix};
 ghost use Rattle.mm_definitions.specs.Pieces.{piece_of, piece_row};
+ghost use Rattle.sqlite.specs.Order.{column};
+ghost use Rattle.mm_store.specs.Rows.{maybe};
 ghost use Rattle.mm_staging.specs.Kept.{kept_row, written_row, bytes_or_none, HasNumbers, AreNumbers, Shows};
 
 use mm_definitions::commands::Piece;
@@ -20,7 +22,8 @@ pub(crate) struct Numbers {
     pub(crate) k7: i64,
 }
 
-/// A piece as a row holds it, with the bytes of the blob that it names, if it names one and they were read.
+/// A piece as a row holds it, with the id of the blob that it names, if it names one, and that blob's bytes, if they were
+/// read.
 #[derive(Drop)]
 pub(crate) struct Kept {
     pub(crate) kind: String,
@@ -28,6 +31,7 @@ pub(crate) struct Kept {
     pub(crate) numbers: Numbers,
     pub(crate) t1: String,
     pub(crate) t2: String,
+    pub(crate) blob: Option<i64>,
     pub(crate) bytes: Option<Vec<u8>>,
 }
 
@@ -79,9 +83,10 @@ fn numbers_in(row: &Row) -> Result<Numbers, Error>
     })
 }
 
-/// The piece that a row shows: its kind, its name, the seven numbers and the two texts, with these bytes.
+/// The piece that a row shows: its kind, its name, the seven numbers, the two texts and its blob, with these bytes.
 pub(crate) fn kept_in(row: &Row, bytes: Option<Vec<u8>>) -> Result<Kept, Error>
     ensures shown { IfOk result (λ kept. Shows row.now (kept_row kept)) }
+    ensures blob { IfOk result (λ kept. column row.now 11 ≡ maybe kept.blob) }
     ensures bytes { IfOk result (λ kept. kept.bytes ≡ bytes) }
 {
     Ok(Kept {
@@ -90,6 +95,7 @@ pub(crate) fn kept_in(row: &Row, bytes: Option<Vec<u8>>) -> Result<Kept, Error>
         numbers: numbers_in(row)?,
         t1: row.get(9)?,
         t2: row.get(10)?,
+        blob: row.get(11)?,
         bytes,
     })
 }

@@ -7,12 +7,14 @@ use mm_definitions::names::Name;
 use mm_definitions::places::TilePlace;
 use mm_definitions::texts::Remark;
 
-/// What a staged piece says, but for the bytes of a tile or a medium, which stay where they are kept.
+/// What a staged piece says, with the id of the blob in place of the bytes of a tile or a medium, which stay where they
+/// are kept.
 #[derive(Drop)]
 pub enum Outline {
     Tile {
         table: Name,
         place: TilePlace,
+        blob: i64,
     },
     TileDrop {
         table: Name,
@@ -33,6 +35,7 @@ pub enum Outline {
         table: Name,
         id: Id,
         content_type: ContentType,
+        blob: i64,
     },
     MediaDrop {
         table: Name,

@@ -13,7 +13,8 @@ ghost use Rattle.mm_blobs.specs.Views.{ListsEach};
 ghost use Rattle.mm_staging.specs.Alone.{FreedByPiecesAlone};
 ghost use Rattle.mm_staging.specs.Kept.{kept_row, written_row, bytes_or_none, IsKeptRow, IsPieceRow};
 ghost use Rattle.mm_staging.specs.Outlines.{IsOutlined};
-ghost use Rattle.mm_store.specs.Handed.{Looks, Tells, ChangesWhere, LooksByRules};
+ghost use Rattle.mm_store.specs.Handed.{Looks, Tells, ChangesWhere};
+ghost use Rattle.mm_layout.specs.Handed.{FindsByRules};
 ghost use Rattle.mm_blobs.specs.Handed.{Finds};
 ghost use Rattle.mm_staging.specs.Handed.{PutsPiece, TellsBytesOf};
 
@@ -104,8 +105,8 @@ fn kept_but_bytes<S: Alter>(
     edition: &str,
     number: i64,
 ) -> Result<Option<Kept>, Fault>
-    ensures { Looks S.Store tx.old tx.new (λ p kept. IsKeptRow
-        (get p.pieces (keys.piece edition.now number)) kept) result }
+    ensures { Finds S.Store tx.old tx.new (λ v kept. IsKeptRow v.kept.shelf
+        (get v.content.pieces (keys.piece edition.now number)) kept) result }
 {
     let Some(row) = row_of_piece(tx, edition, number)? else {
         return Ok(None);
@@ -116,15 +117,15 @@ fn kept_but_bytes<S: Alter>(
     }
 }
 
-/// The piece of a number but for its bytes, which are not read, if the edition has one. A row that spells none is a
-/// fault, 91.
+/// The piece of a number with its blob in place of its bytes, which are not read, if the edition has one. A row that
+/// spells none is a fault, 91.
 pub fn outline_of<S: Alter>(
     tx: &mut Transaction<'_, S>,
     edition: &Name,
     number: u32,
 ) -> Result<Option<Outline>, Fault>
-    ensures { LooksByRules S.Store tx.old tx.new (λ p found. IsOutlined
-        (get p.pieces (keys.piece edition.now (pos number))) found) result }
+    ensures { FindsByRules S.Store tx.old tx.new (λ v found. IsOutlined v.kept.shelf
+        (get v.content.pieces (keys.piece edition.now (pos number))) found) result }
 {
     let edition = edition.as_str();
     match kept_but_bytes(tx, edition, i64::from(number))? {

@@ -3,7 +3,7 @@
 ghost use Rattle.std.specs.Prelude.{◌≡◌, ℕ, List, IfSome, Some, string_bytes, unsigned_abs};
 ghost use Rattle.mm_definitions.specs.Pieces.{piece_by_kind};
 ghost use Rattle.mm_staging.specs.Kept.{kept_with};
-ghost use Rattle.mm_staging.specs.Outlines.{with_bytes};
+ghost use Rattle.mm_staging.specs.Outlines.{with_bytes, IsBlobOf};
 ghost use Rattle.mm_staging.specs.declared.outlines.Outline.TheVariants as outlines;
 
 use crate::kept::{Kept, Numbers};
@@ -48,10 +48,10 @@ fn row_in(table: Name, kept: Kept) -> Option<Outline>
     })
 }
 
-/// The media item that a row of the kind `media` spells.
-fn media_in(table: Name, kept: Kept) -> Option<Outline>
+/// The media item that a row of the kind `media` spells, whose bytes are those of this blob.
+fn media_in(table: Name, blob: i64, kept: Kept) -> Option<Outline>
     ensures { IfSome result (λ outline. outline ≡ outlines.Media table kept.numbers.k1
-        (string_bytes kept.t1)) }
+        (string_bytes kept.t1) blob) }
 {
     let id = Id::new(kept.numbers.k1)?;
     let content_type = ContentType::new(kept.t1)?;
@@ -59,6 +59,7 @@ fn media_in(table: Name, kept: Kept) -> Option<Outline>
         table,
         id,
         content_type,
+        blob,
     })
 }
 
@@ -107,10 +108,11 @@ fn matrix_in(table: Name, kept: Kept) -> Option<Outline>
     })
 }
 
-/// What a row spells by its kind, whatever its bytes are.
+/// What a row spells by its kind, whatever its bytes are. A tile and a medium have a blob.
 pub(crate) fn spelled(kept: Kept) -> Option<Outline>
-    ensures { IfSome result (λ outline. (bytes : List ℕ)
+    ensures piece { IfSome result (λ outline. (bytes : List ℕ)
         → piece_by_kind (kept_with bytes kept) ≡ Some (with_bytes bytes outline)) }
+    ensures blob { IfSome result (IsBlobOf kept.blob) }
 {
     let name = match Name::read(kept.name.as_str()) {
         Some(name) => name,
@@ -120,6 +122,7 @@ pub(crate) fn spelled(kept: Kept) -> Option<Outline>
         "tile" => Some(Outline::Tile {
             table: name,
             place: place_in(kept.numbers)?,
+            blob: kept.blob?,
         }),
         "tile-drop" => Some(Outline::TileDrop {
             table: name,
@@ -130,7 +133,7 @@ pub(crate) fn spelled(kept: Kept) -> Option<Outline>
             table: name,
             id: Id::new(kept.numbers.k1)?,
         }),
-        "media" => media_in(name, kept),
+        "media" => media_in(name, kept.blob?, kept),
         "media-drop" => Some(Outline::MediaDrop {
             table: name,
             id: Id::new(kept.numbers.k1)?,

@@ -1,38 +1,39 @@
 use Rattle.std.proofs.Common.{refl, sym, ◌∙◌}
 use Rattle.std.proofs.Math.Facts.{to_z-of_z}
 use Rattle.mm_definitions.proofs.RefusalFacts.{refused_for, accepted_for}
-use Rattle.mm_store.proofs.Going.{goes_given, next_change}
-use Rattle.mm_content.proofs.Piecing.{change_for, does_for, refuses_for, command_fails_for}
+use Rattle.mm_content.proofs.Piecing.{gives_behind, changes_behind, does_bytes, refuses_bytes, bytes_failed, look_failed}
 use Rattle.mm_content.proofs.staged.put_media_of_piece.Goals as goal
 
 pub returns-in-Some : goal.returns-in-Some
 returns-in-Some g c =
+    let look = c.in_ok-number.ensures in
     rw (← c.as_str-table.ensures.text, c.refused.ensures)
-    (refuses_for c.in_ok-number.ensures
-    (λ bytes profile p meets says. refused_for _ c.in-Some.number (sym (says meets) ∙ c.in-Some.is)))
+    (refuses_bytes look.told look.leaves
+    (λ bytes p says. refused_for _ c.in-Some.number (sym says ∙ c.in-Some.is)))
 
 pub returns-in_err-number : goal.returns-in_err-number
-returns-in_err-number g c = command_fails_for (λ bytes. goes_given c.in_err-number.ensures (λ profile p it. tt))
-    c.from_residual.ensures.1
+returns-in_err-number g c = look_failed c.in_err-number.ensures.leaves c.from_residual.ensures.1
 
-pub returns-in_err-write_medium_of_piece : goal.returns-in_err-write_medium_of_piece
-returns-in_err-write_medium_of_piece g c =
-    rw (← c.as_str.ensures.text) (command_fails_for
-    (change_for c.in_ok-number.ensures c.in_err-write_medium_of_piece.ensures)
-    c.from_residual-in_err-write_medium_of_piece.ensures.1)
+pub returns-in_err-give_medium : goal.returns-in_err-give_medium
+returns-in_err-give_medium g c =
+    let look = c.in_ok-number.ensures in
+    bytes_failed
+    (gives_behind look.told look.leaves (rw (to_z-of_z c.ranges.id, to_z-of_z c.ranges.blob) at c.in_err-give_medium.ensures))
+    c.from_residual-in_err-give_medium.ensures.1
 
 pub returns : goal.returns
 returns g c =
-    rw (← c.as_str-table.ensures.text, ← c.as_str.ensures.text)
-    (does_for (λ bytes. next_change
-    (change_for c.in_ok-number.ensures (rw (to_z-of_z c.ranges.id) at c.in_ok-write_medium_of_piece.ensures) bytes)
+    let look = c.in_ok-number.ensures in
+    rw (← c.as_str-table.ensures.text)
+    (does_bytes (changes_behind
+    (gives_behind look.told look.leaves (rw (to_z-of_z c.ranges.id, to_z-of_z c.ranges.blob) at c.in_ok-give_medium.ensures))
     c.in_ok-set_last_change.ensures)
-    (λ bytes profile p meets says. (accepted_for _ (sym (says meets) ∙ c.in_default.is), refl)))
+    (λ bytes p says. (accepted_for _ (sym says ∙ c.in_default.is), refl)))
 
 pub returns-in_err-set_last_change : goal.returns-in_err-set_last_change
 returns-in_err-set_last_change g c =
-    rw (← c.as_str.ensures.text)
-    (command_fails_for (λ bytes. next_change
-    (change_for c.in_ok-number.ensures (rw (to_z-of_z c.ranges.id) at c.in_ok-write_medium_of_piece.ensures) bytes)
+    let look = c.in_ok-number.ensures in
+    bytes_failed (changes_behind
+    (gives_behind look.told look.leaves (rw (to_z-of_z c.ranges.id, to_z-of_z c.ranges.blob) at c.in_ok-give_medium.ensures))
     c.in_err-set_last_change.ensures)
-    c.from_residual-in_err-set_last_change.ensures.1)
+    c.from_residual-in_err-set_last_change.ensures.1

@@ -6,26 +6,26 @@ use Rattle.mm_content.proofs.tiles.put_tile.Goals as goal
 
 pub returns-in-Some : goal.returns-in-Some
 returns-in-Some g c =
-    rw (← c.as_str-table.ensures.text) (rw c.refused.ensures (refuses c.in_ok-number.ensures
+    rw (← c.as_str-table.ensures.text) (rw c.refused.ensures (refuses c.in_ok-number.ensures.told
     (λ profile p meets says. refused_for _ c.in-Some.number (sym (says meets) ∙ c.in-Some.is))))
 
 pub returns-in_err-number : goal.returns-in_err-number
 returns-in_err-number g c =
-    command_failed c.in_err-number.ensures c.from_residual.ensures.1
+    command_failed c.in_err-number.ensures.told c.from_residual.ensures.1
 
 pub returns-in_err-write_tile : goal.returns-in_err-write_tile
 returns-in_err-write_tile g c =
-    command_failed (next_change c.in_ok-number.ensures c.in_err-write_tile.ensures)
+    command_failed (next_change c.in_ok-number.ensures.told c.in_err-write_tile.ensures)
     c.from_residual-in_err-write_tile.ensures.1
 
 pub returns : goal.returns
 returns g c =
     rw (← c.as_str-table.ensures.text)
-    (does (next_change (next_change c.in_ok-number.ensures c.in_ok-write_tile.ensures) c.in_ok-set_last_change.ensures)
+    (does (next_change (next_change c.in_ok-number.ensures.told c.in_ok-write_tile.ensures) c.in_ok-set_last_change.ensures)
     (λ profile p meets says. (accepted_for _ (sym (says meets) ∙ c.in_default.is), refl)))
 
 pub returns-in_err-set_last_change : goal.returns-in_err-set_last_change
 returns-in_err-set_last_change g c =
-    command_failed (next_change (next_change c.in_ok-number.ensures c.in_ok-write_tile.ensures)
+    command_failed (next_change (next_change c.in_ok-number.ensures.told c.in_ok-write_tile.ensures)
     c.in_err-set_last_change.ensures)
     c.from_residual-in_err-set_last_change.ensures.1

@@ -1,7 +1,7 @@
-use Rattle.std.proofs.Common.{refl, rules, w64}
+use Rattle.std.proofs.Common.{rules, w64}
 use Rattle.std.proofs.lemmas.Int.{to_z-of_z}
 use mir.Val.{SFits}
-use Rattle.mm_edition.proofs.Lending.{lends_for, lends_anywhere}
+use Rattle.mm_edition.proofs.Lending.{lends_anywhere}
 use Rattle.mm_edition.proofs.running.run_item.Goals as goal
 
 pub returns-in-Row : goal.returns-in-Row
@@ -20,8 +20,9 @@ returns-in-RowDrop g c =
 pub returns-in-Media : goal.returns-in-Media
 returns-in-Media g c =
     let id_fits : SFits w64 c.get-in-Media.result = search rules in
+    let blob_fits : SFits w64 c.in-Media.blob = search rules in
     let lent = simp to_z-of_z at (rw (c.as_str-in-Media.ensures.text) at c.put_media_of_piece.ensures) in
-    rw c.in-Media.is (lends_for (rw c.get-in-Media.ensures.number at lent) (λ bytes p holds. (_, holds, refl)))
+    rw c.in-Media.is (rw c.get-in-Media.ensures.number at lent)
 
 pub returns-in-MediaDrop : goal.returns-in-MediaDrop
 returns-in-MediaDrop g c =

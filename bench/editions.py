@@ -6,10 +6,10 @@ transaction; and the memory that it takes.
 
 4,096 tiles of 1 kB are staged, one command each, and then published behind a record of another kind, in some rounds, of
 which the least of each time counts. Opening and closing are in no time. To publish is, for each piece, to read its row,
-to look up the kind, the matrix, the piece's blob and the tile by their keys, to insert the tile and to set last_change;
-then the edition is published, those blobs of its pieces are listed that no tile and no medium names, the pieces are
-removed, and each blob of the list is asked for. Memory is the most that the program held (as `/usr/bin/time -v` tells
-it), for publishing 512 and 4,096 pieces of 10 kB.
+to look up the kind, the matrix and the tile by their keys, to insert the tile and to set last_change; then the edition
+is published, those blobs of its pieces are listed that no tile and no medium names, the pieces are removed, and each
+blob of the list is asked for. Memory is the most that the program held (as `/usr/bin/time -v` tells it), for publishing
+512 and 4,096 pieces of 10 kB.
 """
 
 import os

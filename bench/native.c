@@ -30,6 +30,11 @@ typedef struct {
     sqlite3_int64 zoom, column, row;
 } Place;
 
+typedef struct {
+    Place at;
+    sqlite3_int64 blob;
+} Piece;
+
 static sqlite3 *database;
 static int is_plain;
 static const char STAMP[] = "1970-01-01T00:00:00.000Z";
@@ -170,22 +175,22 @@ static void leave_piece(void) {
     sqlite3_reset(piece_bytes);
 }
 
-// The piece of a number, if the edition has one: its place, and its bytes where they are asked for. All last until the
-// piece is left.
-static int piece_at(const char *edition, sqlite3_int64 number, Place *at, Bytes *bytes) {
+// The piece of a number, if the edition has one: its place and its blob, and its bytes where they are asked for. All last
+// until the piece is left.
+static int piece_at(const char *edition, sqlite3_int64 number, Piece *piece, Bytes *bytes) {
     const char *row = "SELECT kind, name, k1, k2, k3, k4, k5, k6, k7, t1, t2, blob FROM mm_pieces WHERE edition = ?1 "
                       "AND piece_no = ?2 LIMIT 1";
     if (!ask(&piece_row, row, "ti", edition, number))
         return 0;
     want(strcmp((const char *)sqlite3_column_text(piece_row, 0), "tile") == 0, "no tile");
-    at->table = (const char *)sqlite3_column_text(piece_row, 1);
-    at->zoom = sqlite3_column_int64(piece_row, 2);
-    at->column = sqlite3_column_int64(piece_row, 3);
-    at->row = sqlite3_column_int64(piece_row, 4);
+    piece->at.table = (const char *)sqlite3_column_text(piece_row, 1);
+    piece->at.zoom = sqlite3_column_int64(piece_row, 2);
+    piece->at.column = sqlite3_column_int64(piece_row, 3);
+    piece->at.row = sqlite3_column_int64(piece_row, 4);
+    piece->blob = sqlite3_column_int64(piece_row, 11);
     if (bytes == NULL)
         return 1;
-    sqlite3_int64 blob = sqlite3_column_int64(piece_row, 11);
-    want(ask(&piece_bytes, "SELECT data FROM mm_blobs WHERE id = ?1 LIMIT 1", "i", blob), "no such blob");
+    want(ask(&piece_bytes, "SELECT data FROM mm_blobs WHERE id = ?1 LIMIT 1", "i", piece->blob), "no such blob");
     *bytes = (Bytes){sqlite3_column_blob(piece_bytes, 0), sqlite3_column_bytes(piece_bytes, 0)};
     return 1;
 }
@@ -206,11 +211,11 @@ static void want_equal(Place at, Bytes bytes, Place other, Bytes kept) {
 
 // Stages a tile under a number, or finds the equal piece that stands there.
 static void stage(const char *edition, sqlite3_int64 number, Place at, Bytes bytes) {
-    Place other;
+    Piece other;
     Bytes kept;
     want_open(edition);
     if (piece_at(edition, number, &other, &kept)) {
-        want_equal(at, bytes, other, kept);
+        want_equal(at, bytes, other.at, kept);
         leave_piece();
         return;
     }
@@ -220,12 +225,6 @@ static void stage(const char *edition, sqlite3_int64 number, Place at, Bytes byt
     RUN("INSERT INTO mm_pieces (edition, piece_no, kind, name, k1, k2, k3, k4, k5, k6, k7, t1, t2, blob) "
         "VALUES (?1, ?2, 'tile', ?3, ?4, ?5, ?6, 0, 0, 0, 0, '', '', ?7)",
         "titiiii", edition, number, at.table, at.zoom, at.column, at.row, blob);
-}
-
-static void publish_piece(const char *edition, sqlite3_int64 number, Place at) {
-    want_place(at);
-    name_tile(
-        at, NUMBER("SELECT blob FROM mm_pieces WHERE edition = ?1 AND piece_no = ?2 LIMIT 1", "ti", edition, number));
 }
 
 static int is_named(sqlite3_int64 blob) {
@@ -255,11 +254,12 @@ static void remove_pieces(const char *edition, sqlite3_int64 count) {
 }
 
 static void publish(const char *edition) {
-    Place at;
+    Piece piece;
     sqlite3_int64 number = 1;
     want_open(edition);
-    for (; piece_at(edition, number, &at, NULL); number++) {
-        publish_piece(edition, number, at);
+    for (; piece_at(edition, number, &piece, NULL); number++) {
+        want_place(piece.at);
+        name_tile(piece.at, piece.blob);
         leave_piece();
     }
     RUN("UPDATE mm_editions SET state = 'published' WHERE name = ?1", "t", edition);

@@ -1,4 +1,5 @@
--- Commands on the bytes of a blob that stands: what is lent for each bytes that it may have. Each lemma speaks of words.
+-- Commands on the bytes of a blob that stands: what is lent for each bytes that it may have. Each lemma speaks of
+-- words.
 use Rattle.std.proofs.Common.{◌≡◌, ℕ, ℤ, List, Some, None, Result, Ok, Err, sym, ap, ◌∙◌}
 use Rattle.std.specs.Prelude.{IsErrAnd}
 use Rattle.std.proofs.lemmas.Result.{err_from_is_err_and}

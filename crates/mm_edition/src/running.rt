@@ -48,8 +48,8 @@ fn run_tile<S: Alter>(
     }
 }
 
-/// Puts or removes the attribute row or medium of a piece. A medium that is put names the piece's blob. `last_change` is
-/// the stamp of the moment.
+/// Puts or removes the attribute row or medium of a piece. A medium that is put names the piece's blob. `last_change`
+/// is the stamp of the moment.
 fn run_item<S: Alter>(
     tx: &mut Transaction<'_, S>,
     outline: &Outline,

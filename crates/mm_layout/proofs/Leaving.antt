@@ -52,10 +52,9 @@ module _ {S : Type 0} {g : Ghosts S} {a b : Transaction S} where
         found = λ profile spare.
             let old = state g a.conn.now in
             let new = state g b.conn.now in
-            looks profile old new sql given spare Gives (λ v t. ⊤) r h.asked (λ t first ready shown gives. (
-              (selects_one schema sql tree terms project names it old new ready.schema_is params given same first shown).0,
-              λ v holds. tt,
-            ));
+            looks profile old new sql given spare Gives (λ v t. ⊤) r h.asked (λ t first ready shown gives.
+            let read = selects_one schema sql tree terms project names it old new ready.schema_is params given same
+            first shown in (read.0, λ v holds. tt));
       }
 
   -- whatever was answered

@@ -32,8 +32,8 @@ HoldsBytes (outlines.Tile table place blob) bytes shelf = bytes_at shelf blob �
 HoldsBytes (outlines.Media table id content_type blob) bytes shelf = bytes_at shelf blob ≡ Some bytes
 HoldsBytes _ bytes shelf = ⊤
 
--- The entry is the row of the piece that was told, with the bytes that it has, which are those of the piece's blob. Where
--- none was told there is no entry.
+-- The entry is the row of the piece that was told, with the bytes that it has, which are those of the piece's blob.
+-- Where none was told there is no entry.
 abbrev pub IsOutlined : Shelf → Option PieceRow → Option Outline → Type 0
 IsOutlined shelf entry None = entry ≡ None
 IsOutlined shelf entry (Some outline) = (bytes : List ℕ) × HoldsBytes outline bytes shelf

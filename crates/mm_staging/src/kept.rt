@@ -22,8 +22,8 @@ pub(crate) struct Numbers {
     pub(crate) k7: i64,
 }
 
-/// A piece as a row holds it, with the id of the blob that it names, if it names one, and that blob's bytes, if they were
-/// read.
+/// A piece as a row holds it, with the id of the blob that it names, if it names one, and that blob's bytes, if they
+/// were read.
 #[derive(Drop)]
 pub(crate) struct Kept {
     pub(crate) kind: String,

@@ -22,7 +22,8 @@ returns-in_err-write_medium g c =
 pub returns : goal.returns
 returns g c =
     rw (← c.as_str-table.ensures.text)
-    (does (next_change (next_change c.in_ok-number.ensures.told (rw (to_z-of_z c.ranges.id) at c.in_ok-write_medium.ensures))
+    (does (next_change (next_change c.in_ok-number.ensures.told
+    (rw (to_z-of_z c.ranges.id) at c.in_ok-write_medium.ensures))
     c.in_ok-set_last_change.ensures)
     (λ profile p meets says. (accepted_for _ (sym (says meets) ∙ c.in_default.is), refl)))
 

@@ -1,7 +1,8 @@
 use Rattle.std.proofs.Common.{refl, sym, ◌∙◌}
 use Rattle.std.proofs.Math.Facts.{to_z-of_z}
 use Rattle.mm_definitions.proofs.RefusalFacts.{refused_for, accepted_for}
-use Rattle.mm_content.proofs.Piecing.{gives_behind, changes_behind, does_bytes, refuses_bytes, bytes_failed, look_failed}
+use Rattle.mm_content.proofs.Piecing.{gives_behind, changes_behind, does_bytes, refuses_bytes, bytes_failed}
+use Rattle.mm_content.proofs.Piecing.{look_failed}
 use Rattle.mm_content.proofs.staged.put_media_of_piece.Goals as goal
 
 pub returns-in-Some : goal.returns-in-Some
@@ -18,7 +19,8 @@ pub returns-in_err-give_medium : goal.returns-in_err-give_medium
 returns-in_err-give_medium g c =
     let look = c.in_ok-number.ensures in
     bytes_failed
-    (gives_behind look.told look.leaves (rw (to_z-of_z c.ranges.id, to_z-of_z c.ranges.blob) at c.in_err-give_medium.ensures))
+    (gives_behind look.told look.leaves
+    (rw (to_z-of_z c.ranges.id, to_z-of_z c.ranges.blob) at c.in_err-give_medium.ensures))
     c.from_residual-in_err-give_medium.ensures.1
 
 pub returns : goal.returns
@@ -26,7 +28,8 @@ returns g c =
     let look = c.in_ok-number.ensures in
     rw (← c.as_str-table.ensures.text)
     (does_bytes (changes_behind
-    (gives_behind look.told look.leaves (rw (to_z-of_z c.ranges.id, to_z-of_z c.ranges.blob) at c.in_ok-give_medium.ensures))
+    (gives_behind look.told look.leaves
+    (rw (to_z-of_z c.ranges.id, to_z-of_z c.ranges.blob) at c.in_ok-give_medium.ensures))
     c.in_ok-set_last_change.ensures)
     (λ bytes p says. (accepted_for _ (sym says ∙ c.in_default.is), refl)))
 
@@ -34,6 +37,7 @@ pub returns-in_err-set_last_change : goal.returns-in_err-set_last_change
 returns-in_err-set_last_change g c =
     let look = c.in_ok-number.ensures in
     bytes_failed (changes_behind
-    (gives_behind look.told look.leaves (rw (to_z-of_z c.ranges.id, to_z-of_z c.ranges.blob) at c.in_ok-give_medium.ensures))
+    (gives_behind look.told look.leaves
+    (rw (to_z-of_z c.ranges.id, to_z-of_z c.ranges.blob) at c.in_ok-give_medium.ensures))
     c.in_err-set_last_change.ensures)
     c.from_residual-in_err-set_last_change.ensures.1

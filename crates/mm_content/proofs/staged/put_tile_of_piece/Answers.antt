@@ -1,7 +1,8 @@
 use Rattle.std.proofs.Common.{refl, sym, ◌∙◌}
 use Rattle.std.proofs.Math.Facts.{to_z-of_z}
 use Rattle.mm_definitions.proofs.RefusalFacts.{refused_for, accepted_for}
-use Rattle.mm_content.proofs.Piecing.{gives_behind, changes_behind, does_bytes, refuses_bytes, bytes_failed, look_failed}
+use Rattle.mm_content.proofs.Piecing.{gives_behind, changes_behind, does_bytes, refuses_bytes, bytes_failed}
+use Rattle.mm_content.proofs.Piecing.{look_failed}
 use Rattle.mm_content.proofs.staged.put_tile_of_piece.Goals as goal
 
 pub returns-in-Some : goal.returns-in-Some

@@ -21,7 +21,8 @@ returns-in_err-write_tile g c =
 pub returns : goal.returns
 returns g c =
     rw (← c.as_str-table.ensures.text)
-    (does (next_change (next_change c.in_ok-number.ensures.told c.in_ok-write_tile.ensures) c.in_ok-set_last_change.ensures)
+    (does (next_change (next_change c.in_ok-number.ensures.told c.in_ok-write_tile.ensures)
+    c.in_ok-set_last_change.ensures)
     (λ profile p meets says. (accepted_for _ (sym (says meets) ∙ c.in_default.is), refl)))
 
 pub returns-in_err-set_last_change : goal.returns-in_err-set_last_change

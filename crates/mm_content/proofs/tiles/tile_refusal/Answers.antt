@@ -63,7 +63,9 @@ returns-in_err-width-clause-leaves g c =
     c.from_residual-in_err-width.ensures.1
 
 pub returns-then-is_outside-clause-leaves : goal.returns-then-is_outside-clause-leaves
-returns-then-is_outside-clause-leaves g c = leaves (leaves_then c.in_ok-number.ensures.leaves c.in_ok-width.ensures.leaves)
+returns-then-is_outside-clause-leaves g c =
+    leaves (leaves_then c.in_ok-number.ensures.leaves c.in_ok-width.ensures.leaves)
 
 pub returns-else-is_outside-clause-leaves : goal.returns-else-is_outside-clause-leaves
-returns-else-is_outside-clause-leaves g c = leaves (leaves_then c.in_ok-number.ensures.leaves c.in_ok-width.ensures.leaves)
+returns-else-is_outside-clause-leaves g c =
+    leaves (leaves_then c.in_ok-number.ensures.leaves c.in_ok-width.ensures.leaves)

@@ -67,6 +67,6 @@ returns-else-branch-2 g c =
 
 pub returns-in_err-suits_zooms : goal.returns-in_err-suits_zooms
 returns-in_err-suits_zooms g c =
-    failed (goes_on (goes_on (goes_on c.in_ok-kind.ensures.told c.in_ok-has_matrix.ensures) c.in_ok-fits_pyramid.ensures)
-    c.in_err-suits_zooms.ensures)
+    failed (goes_on (goes_on (goes_on c.in_ok-kind.ensures.told c.in_ok-has_matrix.ensures)
+    c.in_ok-fits_pyramid.ensures) c.in_err-suits_zooms.ensures)
     c.from_residual-in_err-suits_zooms.ensures.1

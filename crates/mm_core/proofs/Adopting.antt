@@ -1,10 +1,9 @@
 -- A connection that is looked at and then checked reads as it did before, and is settled where it was.
-use Rattle.std.proofs.Common.{◌≡◌, ℕ, inl, inr, Bool, true, false, Option, Some, None, Result, Ok, Err, refl, sym}
+use Rattle.std.proofs.Common.{◌≡◌, inl, inr, Result, Ok, Err, refl, sym}
 use Rattle.std.proofs.Common.{subst, arith}
 use Rattle.sqlite.specs.State.{State, HasCleanDisk, IsUnchanged}
 use Rattle.mm_definitions.specs.Bounds.{Profile, current}
 use Rattle.mm_definitions.specs.Package.{Package}
-use Rattle.mm_definitions.specs.declared.answers.Fault.{Fault}
 use Rattle.mm_definitions.specs.declared.answers.Open.{Open}
 use Rattle.mm_definitions.specs.declared.answers.Open.TheVariants as opens
 use Rattle.mm_store.specs.Stands.{ReadsAs, IsSettled}
@@ -22,7 +21,6 @@ use Rattle.mm_check.specs.Form.{TellsForm}
 use Rattle.mm_check.proofs.Reading.{told_as_before}
 use Rattle.mm_core.specs.Adopted.{IsAdopted, WasAdopted, IsOfThisVersion, Declines, DeclinesNone, TellsProfile}
 use Rattle.mm_core.specs.Adopted.{IsNotAdopted}
-use Rattle.std.specs.Prelude.{ℕ}
 
 -- so it is known of it later
 pub was_adopted : (old mid new : State) → IsAdopted old mid → (HasCleanDisk new → HasCleanDisk mid) → WasAdopted old new

@@ -1,5 +1,5 @@
 -- One more request.
-use Rattle.std.proofs.Common.{◌≡◌, ◌∙◌, ◌⊎◌, true, false, List, [], ◌∷◌, ◌++◌, Option, Some, None, Result, Ok, Err, inl}
+use Rattle.std.proofs.Common.{◌≡◌, ◌∙◌, ◌⊎◌, false, List, [], ◌∷◌, ◌++◌, Option, Some, None, Result, Ok, Err, inl}
 use Rattle.std.proofs.Common.{inr, refl, sym, ap, subst, append_assoc, append-nil, ℕ, Bool}
 use Rattle.std.specs.Prelude.{option_map}
 use Rattle.mm_definitions.specs.declared.answers.PageFault.{PageFault}

@@ -11,7 +11,6 @@ use Rattle.mm_definitions.specs.Package.{Package}
 use Rattle.mm_definitions.specs.Pieces.{piece_row}
 use Rattle.mm_definitions.specs.Rules.{Meets}
 use Rattle.mm_definitions.specs.Conditions.{least, piece_reasons}
-use Rattle.mm_definitions.specs.Effects.{piece_effect}
 use Rattle.mm_definitions.specs.Step.{refusal, refusal_of, done, unless_refused}
 use Rattle.mm_definitions.specs.declared.answers.Fault.{Fault}
 use Rattle.mm_definitions.specs.declared.answers.Outcome.{Outcome}

@@ -24,14 +24,6 @@ module _ {S T : Type 0} (g : Ghosts S) (old new : Transaction S) where
         (IsSeen spare profile (state g old.conn.now))
         (λ base v t w. (w ≡ v) × IsSeen spare profile (state g new.conn.now) base w × Says w t) result
 
-  -- it only looks, and answers so of a view for which this holds
-  pub record FindsFor {X : Type 0} (When : X → Package → Type 0) (Says : X → View → T → Type 0)
-      (result : Result T Fault) : Type 0 where
-    pub same : IsSame old new
-    pub found : (profile : Profile) (spare : Spare) (x : X) → IsMove (state g old.conn.now) (state g new.conn.now)
-        (λ base v. IsSeen spare profile (state g old.conn.now) base v × When x v.content)
-        (λ base v t w. (w ≡ v) × IsSeen spare profile (state g new.conn.now) base w × Says x w t) result
-
   -- it lets an entry name a blob that stands, in place of the blob that it names, if it stands: that one may be unnamed
   -- then
   pub record Names (blob : ℤ) (entry : View → Option ℤ) (stands : Option ℤ) (next : List ℕ → View → View)

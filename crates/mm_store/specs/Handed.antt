@@ -91,12 +91,6 @@ module _ {S : Type 0} (g : Ghosts S) (old new : Transaction S) where
     abbrev pub Changes : (Package → Package) → Result T Fault → Type 0
     Changes = ChangesWhere (λ p. ⊤)
 
-    -- it makes the change for which this holds
-    pub record ChangesFor {X : Type 0} (When : X → Package → Type 0) (next : X → Package → Package)
-        (result : Result T Fault) : Type 0 where
-      pub same : IsSame old new
-      pub goes : (x : X) → ChangesWhere (When x) (next x) result
-
   -- ---- a command
 
   -- it only looks, and answers the least of these reasons of a package that meets the rules, if any holds

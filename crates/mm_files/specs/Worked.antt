@@ -1,5 +1,5 @@
 -- What work on a file found, and what it leaves.
-use Rattle.std.specs.Prelude.{◌≡◌, ⊤, ℕ, Bool, true, false, List, [], Option, None, IsTrue}
+use Rattle.std.specs.Prelude.{◌≡◌, ⊤, ℕ, Bool, true, false, List, [], Option, None, Result, Ok, Err, IsTrue}
 use Rattle.sqlite_disk.specs.declared.Disk.{Ghosts}
 use Rattle.sqlite_disk.specs.declared.Files.{Files}
 use Rattle.sqlite.specs.Tree.{Trees}
@@ -36,6 +36,16 @@ OnlyCommitted s = (db : Trees) → s.may_leave db → db ≡ s.committed.trees
 -- it was just opened
 abbrev pub IsJustOpened : State → Type 0
 IsJustOpened s = Opens s × IsLive s × OnlyCommitted s
+
+-- whether the files are to be closed behind work, by what the work came to: never where it was not done
+abbrev pub closes_behind : {T Why : Type 0} → (T → Bool) → Result T Why → Bool
+closes_behind closes (Ok done) = closes done
+closes_behind closes (Err why) = false
+
+-- What is said of the connection that work hands back, and of what it came to or why it was not done.
+abbrev pub OnHanded : {C T Why : Type 0} → Result (C × T) (C × Why) → (C → Result T Why → Type 0) → Type 0
+OnHanded (Ok done) says = says done.0 (Ok done.1)
+OnHanded (Err undone) says = says undone.0 (Err undone.1)
 
 -- ---- files
 

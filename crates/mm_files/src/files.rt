@@ -13,7 +13,7 @@ ghost use Rattle.sqlite.specs.WalReads.{AreClean, OnlyReads};
 ghost use Rattle.mm_io.specs.Sending.{IsOut};
 ghost use Rattle.mm_files.specs.Files.{HoldNoByte, IsUntold, IsWhyNot, TellsBare};
 ghost use Rattle.mm_files.specs.Worked.{EndedOn, HasNotWorked, HasWorked, IsJustOpened, IsUnbegun, IsUnworked};
-ghost use Rattle.mm_files.specs.Worked.{KeepsLeft, KeepsStill, TellsFileBytes, WorkedOn};
+ghost use Rattle.mm_files.specs.Worked.{KeepsLeft, KeepsStill, TellsFileBytes, WorkedOn, closes_behind};
 
 use crate::left::{Left, NotDone, Opened, Unclosed};
 use crate::works::Works;
@@ -236,28 +236,31 @@ fn work_and_close<D: Disk + Drop, K: Works, W: Write>(
     conn: Connection<FileStore<D>>,
     work: &mut K,
     output: &mut Io<W>,
-) -> Result<(Files<D>, K::Done), (FileStore<D>, Fault)>
+) -> Result<(Files<D>, Result<K::Done, K::Why>), (FileStore<D>, Fault)>
     requires mode { conn.in_transaction ≡ false }
     requires fresh { HasCleanDisk (file_state conn) → IsJustOpened (file_state conn) }
     ensures done { IfOk result (λ r. K.comes_to work.old
         (written W.contents output.old) (written W.contents output.new) r.1) }
     ensures worked { IfOk result (λ r. WorkedOn D.Disk (K.tells work.old) (K.leaves work.old)
-        (K.closes r.1) (written W.contents output.old) (written W.contents output.new)
+        (closes_behind K.closes r.1) (written W.contents output.old) (written W.contents output.new)
         r.0 r.1 (file_state conn)) }
     ensures ended { IfErr result (λ e. EndedOn D.Disk (K.tells work.old) (K.leaves work.old)
-        K.closes (written W.contents output.old) (written W.contents output.new)
+        (closes_behind K.closes) (written W.contents output.old) (written W.contents output.new)
         e.0 (file_state conn)) }
     ensures fault { IfErr result (λ e. IsStoreFault e.1) }
-    ensures untold { OnErr result (IsUntold (K.comes_to work.old) K.closes
+    ensures untold { OnErr result (IsUntold (K.comes_to work.old) (closes_behind K.closes)
         (written W.contents output.old) (written W.contents output.new)) }
     ensures out { IsOut output.old → IsOut output.new }
 {
-    let (conn, done) = work.work(alloc, conn, output);
+    let (conn, done) = match work.work(alloc, conn, output) {
+        Ok(end) => end,
+        Err((conn, why)) => return Ok((let_go(conn), Err(why))),
+    };
     if !K::closes(done) {
-        return Ok((let_go(conn), done));
+        return Ok((let_go(conn), Ok(done)));
     }
     match close_files(conn) {
-        Ok(files) => Ok((files, done)),
+        Ok(files) => Ok((files, Ok(done))),
         Err(failed) => Err(failed),
     }
 }
@@ -272,15 +275,16 @@ pub fn on_file<'a, S: Start, K: Works, W: Write>(
     start: S,
     work: &mut K,
     output: &mut Io<W>,
-) -> Result<(Opened<'a, FileFrom<S>>, K::Done), (Left<'a, FileFrom<S>, S>, NotDone)>
+) -> Result<(Opened<'a, FileFrom<S>>, Result<K::Done, K::Why>), (Left<'a, FileFrom<S>, S>, NotDone)>
     ensures memory { path.now ≡ codes ":memory:" → IsErr result }
     ensures uri { IsTrue (starts_with nat_eq path.now (codes "file:")) → IsErr result }
     ensures worked { IfOk result (λ r. HasWorked ⟦<FileFrom<S> as Disk>⟧ (image_at S.Start) path.now
-        length (K.comes_to work.old) (K.tells work.old) (K.leaves work.old) K.closes
+        length (K.comes_to work.old) (K.tells work.old) (K.leaves work.old) (closes_behind K.closes)
         (written W.contents output.old) (written W.contents output.new) r.0 r.1) }
     ensures unworked { IfErr result (λ e. HasNotWorked ⟦<FileFrom<S> as Disk>⟧ (image_at S.Start)
-        path.now length (K.comes_to work.old) (K.tells work.old) (K.leaves work.old) K.closes
-        (written W.contents output.old) (written W.contents output.new) e.0 e.1) }
+        path.now length (K.comes_to work.old) (K.tells work.old) (K.leaves work.old)
+        (closes_behind K.closes) (written W.contents output.old) (written W.contents output.new)
+        e.0 e.1) }
     ensures out { IsOut output.old → IsOut output.new }
 {
     let pages = pages_for(length, K::WRITES);

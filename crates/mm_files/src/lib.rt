@@ -16,4 +16,4 @@ mod works;
 pub use files::{let_go, on_file};
 pub use left::{Left, NotDone, Opened, Unclosed};
 pub use next::next_run;
-pub use works::Works;
+pub use works::{Handed, Works};

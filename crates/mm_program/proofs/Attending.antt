@@ -1,6 +1,6 @@
 -- The lines of a desk, one request behind another, and what it leaves.
-use Rattle.std.proofs.Common.{◌≡◌, ◌∙◌, ◌+◌, ◌<◌, ◌⊎◌, ℕ, List, [], ◌∷◌, ◌++◌, length, Option, Ok, Err, Result, IfErr}
-use Rattle.std.proofs.Common.{IfOk, refl, sym, ap, subst, inl, inr, Bool, true, false, All, arith, length-append}
+use Rattle.std.proofs.Common.{◌≡◌, ◌∙◌, ◌+◌, ◌<◌, ◌⊎◌, ℕ, List, [], ◌∷◌, ◌++◌, length, Option, Ok, Err}
+use Rattle.std.proofs.Common.{refl, sym, ap, subst, inl, inr, Bool, true, false, All, arith, length-append}
 use Rattle.std.proofs.Common.{append-nil}
 use Rattle.std.specs.Prelude.{◌≤◌}
 use Rattle.std.specs.List.{concat}
@@ -16,9 +16,7 @@ use Rattle.mm_definitions.specs.Rules.{Meets}
 use Rattle.mm_definitions.specs.Streams.{Written, written_as}
 use Rattle.mm_core.specs.Adopted.{IsAdopted}
 use Rattle.mm_core.specs.Applied.{StandsForCurrent}
-use Rattle.mm_core.specs.Viewers.{LeavesPackage}
-use Rattle.mm_store.proofs.Quiet.{quiet_then}
-use Rattle.mm_core.proofs.Adopting.{was_adopted}
+use Rattle.mm_store.specs.Statements.{CommitsNothing}
 use Rattle.mm_core.proofs.Opened.{nothing_less, opened_settles}
 use Rattle.mm_desk.specs.Sittings.{IsSitting}
 use Rattle.mm_files.specs.Worked.{IsJustOpened}
@@ -28,8 +26,7 @@ use Rattle.mm_program.specs.Served.{PrintsNothing}
 use Rattle.mm_program.specs.Stops.{StopsAny}
 use Rattle.mm_program.specs.declared.sittings.Turn.{Turn}
 use Rattle.mm_program.specs.declared.sittings.Turn.TheVariants as turns
-use Rattle.mm_program.specs.Left.{WasFoundWell}
-use Rattle.mm_program.proofs.Left.{found_well, leaves_same}
+use Rattle.mm_program.proofs.Left.{was_well}
 
 -- ---- what is printed
 
@@ -146,30 +143,14 @@ module _ (old mid new : State) (fresh : HasCleanDisk old → IsJustOpened old) (
   leaves_desk status after may p stands meets = settled p stands meets after may
 
   pub tells_desk : (status : ℕ) → TellsSat old.committed.trees (Ok status)
-  tells_desk status =
-      found_well old new fresh clean (λ _. was_clean) (was_adopted old mid new adopted (λ _. sits.clean clean))
+  tells_desk status = was_well old mid fresh adopted (sits.clean clean)
 
--- whatever it came to
+-- where the port was not bound
 module _ (old mid new : State) (fresh : HasCleanDisk old → IsJustOpened old) (clean : HasCleanDisk new)
-    (adopted : IsAdopted old mid) where
-  well : LeavesPackage mid new → WasFoundWell old.committed.trees
-  well kept =
-      let early = nothing_less _ _ kept.survives.clean clean in
-      found_well old new fresh clean (λ _. nothing_less _ _ adopted.survives.clean early)
-      (was_adopted old mid new adopted (λ _. early))
-
-  pub tells_done : (done : Result ℕ Stop) → IfOk done (λ status. Sits mid new)
-      → IfErr done (λ why. LeavesPackage mid new) → IfErr done StopsAny
-      → TellsSat old.committed.trees done
-  tells_done (Ok status) sits kept stops = tells_desk old mid new fresh clean adopted sits status
-  tells_done (Err why) sits kept stops = λ p stands. inr ((well kept).meets p stands, stops)
-
-  pub leaves_done : (done : Result ℕ Stop) → IfOk done (λ status. Sits mid new)
-      → IfErr done (λ why. LeavesPackage mid new)
-      → (after : Trees) → new.may_leave after → LeavesDesk old.committed.trees after done
-  leaves_done (Ok status) sits kept after may = leaves_desk old mid new fresh clean adopted sits status after may
-  leaves_done (Err why) sits kept after may =
-      leaves_same old new fresh clean (quiet_then old mid new adopted.survives kept.survives) after may
+    (adopted : IsAdopted old mid) (quiet : CommitsNothing mid new) where
+  pub tells_unseated : (why : Stop) → StopsAny why → TellsSat old.committed.trees (Err why)
+  tells_unseated why stops p stands =
+      inr ((was_well old mid fresh adopted (nothing_less _ _ quiet.clean clean)).meets p stands, stops)
 
 -- ---- a turn
 

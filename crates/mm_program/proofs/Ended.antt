@@ -7,13 +7,14 @@ use Rattle.sqlite.specs.Tree.{Trees}
 use Rattle.sqlite.specs.Recovery.{Image}
 use Rattle.mm_definitions.specs.Keys.{Text}
 use Rattle.mm_definitions.specs.Streams.{Written}
+use Rattle.mm_definitions.specs.declared.answers.Fault.{Fault}
 use Rattle.mm_files.specs.declared.left.Left.{Left}
 use Rattle.mm_files.specs.declared.left.Left.TheVariants as left
 use Rattle.mm_work.specs.Told.{IsTold, stop_status, stop_text}
 use Rattle.mm_work.specs.declared.stop.Stop.{Stop}
 use Rattle.mm_work.specs.declared.stop.Stop.TheVariants as stops
 use Rattle.mm_program.specs.Desks.{IsKey, IsSeated, TellsSeat}
-use Rattle.mm_program.specs.Files.{IsUndone, WorkEnds, WorksOnFile}
+use Rattle.mm_program.specs.Files.{IsUndone, StopsStore, WorkEnds, WorksOnFile}
 use Rattle.mm_program.specs.Served.{EndsWell, PrintsNothing, ServiceEnds}
 use Rattle.mm_program.specs.Stops.{StopsAny, StopsCheck, StopsNew, StopsOld}
 use Rattle.mm_program.specs.Told.{IsOutcome, TellsWork}
@@ -43,6 +44,14 @@ old_check stops.NotEmpty it = it
 old_check (stops.NotPackage cause) it = tt
 old_check (stops.Rule rule) it = tt
 old_check (stops.Fault fault) it = tt
+
+stops_new : (done : Result (Unit {0}) Stop) → IfErr done StopsStore → IfErr done StopsNew
+stops_new (Ok done) it = tt
+stops_new (Err stops.NotEmpty) it = absurd it
+stops_new (Err (stops.NotPackage cause)) it = absurd it
+stops_new (Err (stops.Rule rule)) it = absurd it
+stops_new (Err (stops.Fault fault)) (inl memory) = inl (ap (λ (f : Fault). f.0) memory)
+stops_new (Err (stops.Fault fault)) (inr store) = inr (inl (ap (λ (f : Fault). f.0) store))
 
 any_fault : (why : Stop) → StopsAny why → stop_status why ≡ 3
 any_fault stops.NotEmpty it = absurd it
@@ -97,9 +106,9 @@ module _ {D S : Type 0} {g : Ghosts D} {image : Image} {path : Text} {old new : 
       {leaves : Trees → Trees → Written → Written → Result (Unit {0}) Stop → Type 0}
       {done : Result (Unit {0}) Stop} where
     -- a making
-    pub made : WorksOnFile g image path StopsNew (λ held holds done. IfErr done StopsNew) tells leaves closes_done
+    pub made : WorksOnFile g image path StopsNew (λ held holds done. IfErr done StopsStore) tells leaves closes_done
         old new done rest → IfErr done StopsNew
-    made it = told_of (λ held holds done. IfErr done StopsNew) (λ done. IfErr done StopsNew) (λ done is. is)
+    made it = told_of (λ held holds done. IfErr done StopsStore) (λ done. IfErr done StopsNew) stops_new
         (λ why is undone. is) it
 
     -- a check, or a migration

@@ -1,5 +1,6 @@
 -- What work leaves of a database, and tells of it, by what becomes of the connection that was just opened.
-use Rattle.std.proofs.Common.{◌≡◌, ◌⊎◌, ℕ, ◌+◌, List, Option, Result, Ok, Err, IfErr, inl, inr, subst, sym}
+use Rattle.std.proofs.Common.{◌≡◌, ◌⊎◌, ℕ, ◌+◌, List, Option, Result, Ok, Err, IfErr, IfOk, false, inl, inr, refl, subst, sym}
+use Rattle.std.specs.Io.KnownBytes.{Appends}
 use Rattle.sqlite.specs.Tree.{Trees}
 use Rattle.sqlite.specs.State.{State, HasCleanDisk}
 use Rattle.mm_store.proofs.Seen.{seen_of}
@@ -7,10 +8,12 @@ use Rattle.mm_definitions.specs.Bounds.{current, micrometres, millimetres}
 use Rattle.mm_definitions.specs.Keys.{Text}
 use Rattle.mm_definitions.specs.Package.{Package}
 use Rattle.mm_definitions.specs.Streams.{Written}
+use Rattle.mm_definitions.specs.declared.answers.Fault.{Fault}
 use Rattle.mm_definitions.specs.declared.answers.KitFault.{KitFault}
 use Rattle.mm_definitions.specs.declared.answers.Open.{Open}
 use Rattle.mm_definitions.specs.declared.answers.Open.TheVariants as opens
 use Rattle.mm_definitions.specs.declared.answers.Staged.{Staged}
+use Rattle.mm_store.specs.Seen.{IsSeenAs}
 use Rattle.mm_store.specs.Stands.{IsSettled}
 use Rattle.mm_store.specs.Statements.{CommitsNothing}
 use Rattle.mm_store.proofs.Quiet.{quiet_then}
@@ -21,14 +24,13 @@ use Rattle.mm_core.specs.Sessions.{IsCreated, IsNotCreated}
 use Rattle.mm_run.specs.Runs.{OnSound}
 use Rattle.mm_run.proofs.Reports.{stops-behind}
 use Rattle.mm_kit.specs.Folders.{Files}
-use Rattle.mm_kit.specs.Imports.{IsImportKept, OnKit}
+use Rattle.mm_kit.specs.Imports.{IsImportAnswered, IsImportKept, IsImportStopped, OnKit}
 use Rattle.mm_core.specs.Migrations.{Adopts, IsMigration, Migrates}
 use Rattle.mm_core.specs.Opening.{HasNoTable, IsBlank}
-use Rattle.mm_core.specs.Viewers.{LeavesPackage}
-use Rattle.mm_work.specs.Declined.{IsDeclined}
+use Rattle.mm_core.specs.Viewers.{IsOn}
+use Rattle.mm_core.specs.Writing.{IsBegun, ListingTellsWriter}
+use Rattle.mm_work.specs.Declined.{IsDeclined, stop_of}
 use Rattle.mm_work.specs.Imports.{IsImport}
-use Rattle.mm_work.specs.Texts.{IsTextShown, IsTextUnshown}
-use Rattle.mm_work.specs.Migrated.{IsUnmigrated}
 use Rattle.mm_work.specs.Ran.{IsListRun}
 use Rattle.mm_work.specs.declared.stop.Stop.{Stop}
 use Rattle.mm_work.specs.declared.stop.Stop.TheVariants as stops
@@ -129,30 +131,6 @@ module _ (old new : State) (fresh : HasCleanDisk old → IsJustOpened old) (clea
   pub found_adopted : IsAdopted old new → WasFoundWell old.committed.trees
   found_adopted it = found_well (λ is. nothing_less _ _ it.survives.clean is) (was_adopted old new new it (λ is. is))
 
-  -- ---- a text
-  pub tells_text : {T : Type 0} (text : Package → Text) (came : Package → T) (held holds : Written) (it : T)
-      → IsTextShown text came old new held.contents holds.contents it
-      → TellsText text came old.committed.trees held holds (Ok it)
-  tells_text text came held holds it is =
-      let was : HasCleanDisk new → HasCleanDisk old = λ c. nothing_less _ _ is.survives.clean c in (
-        found_well was is.adopted,
-        λ p stands. (is.printed clean p (settles was p stands), is.told clean p (settles was p stands)),
-      )
-
-  pub tells_no_text : {T : Type 0} (text : Package → Text) (came : Package → T) (held holds : Written) (why : Stop)
-      → IsTextUnshown text old new held holds why → TellsText text came old.committed.trees held holds (Err why)
-  tells_no_text text came held holds why (inl (declined, same)) p stands =
-      inl (tells_declined why declined p stands, same)
-  tells_no_text text came held holds why (inr (fault, cut, is)) p stands =
-      let settled = settles (λ c. nothing_less _ _ cut.survives.clean c) p stands in
-      inr (cut.meets clean p settled, cut.begun clean p settled, (fault, is))
-
-  pub leaves_no_text : (text : Package → Text) (held holds : Written) (why : Stop)
-      → IsTextUnshown text old new held holds why → (after : Trees) → new.may_leave after
-      → LeavesSame old.committed.trees after
-  leaves_no_text text held holds why (inl (declined, same)) after may = leaves_same declined.1.survives after may
-  leaves_no_text text held holds why (inr (fault, cut, is)) after may = leaves_same cut.survives after may
-
   -- ---- a making
   blank : HasCleanDisk old → HasNoTable old.committed.trees → IsBlank old
   blank was none = opened_blank old (fresh was) none
@@ -185,19 +163,19 @@ module _ (old new : State) (fresh : HasCleanDisk old → IsJustOpened old) (clea
             (scaled.0.left after may, scaled.1),
       )
 
-  pub leaves_unmigrated : (why : Stop) → IsUnmigrated old new why → (after : Trees) → new.may_leave after
-      → LeavesMigrated old.committed.trees after (Err why)
-  leaves_unmigrated why (cause, it, is) after may =
+  pub leaves_unmigrated : (cause : Open) → IsMigration old new (Err cause) → (after : Trees) → new.may_leave after
+      → LeavesMigrated old.committed.trees after (Err (stop_of cause))
+  leaves_unmigrated cause it after may =
       let opened = fresh (nothing_less _ _ it.survives.clean clean) in (
         λ p stands. (
           cause,
           stays_for p new after may cause (it.adopts clean p (opened_settles old opened micrometres p stands)),
-          is,
+          refl,
         ),
         λ p stands. (
           cause,
           stays_in p new after may cause (it.migrates clean p (opened_settles old opened millimetres p stands)),
-          is,
+          refl,
         ),
       )
 
@@ -224,19 +202,48 @@ module _ (old new : State) (fresh : HasCleanDisk old → IsJustOpened old) (clea
     }
     imported_left files (Err stopped) it = λ db same. it db (subst new.may_leave (sym same) may)
 
+-- ---- a session that was adopted
+
+module _ (old mid : State) (fresh : HasCleanDisk old → IsJustOpened old) (adopted : IsAdopted old mid)
+    (early : HasCleanDisk mid) where
+  pub was_well : WasFoundWell old.committed.trees
+  was_well = found_adopted old mid fresh early adopted
+
+  pub settled_for : (p : Package) → StandsForCurrent old.committed.trees p → IsSettled current mid p
+  settled_for p stands =
+      adopted.settled early p (settles old mid fresh early (λ c. nothing_less _ _ adopted.survives.clean c) p stands)
+
+-- ---- an import
+
+import_of : (clean : Type 0) (told : Option Files) (name : Text) (new : State) (settled : Package → Type 0)
+    (import : Result Staged KitFault)
+    → IfOk import
+    (λ a. OnKit clean settled told (λ files p. IsImportAnswered files name p (λ q. IsSettled current new q) a))
+    → IfErr import
+    (λ e. OnKit clean settled told
+    (λ files p. IsImportStopped files name p (λ db. new.may_leave db) StandsForCurrent e.staged))
+    → OnKit clean settled told (λ files p. IsImport files name p new import)
+import_of clean told name new settled (Ok answer) answered stopped = answered
+import_of clean told name new settled (Err fault) answered stopped = stopped
+
+module _ (old mid new : State) (fresh : HasCleanDisk old → IsJustOpened old) (adopted : IsAdopted old mid)
+    (was : HasCleanDisk new → HasCleanDisk mid) (clean : HasCleanDisk new) where
   pub leaves_import : (told : Option Files) (name : Text) (import : Result Staged KitFault)
-      → (HasCleanDisk new → HasCleanDisk old)
-      → OnKit (HasCleanDisk new) (λ p. IsSettled current old p) told (λ files p. IsImport files name p new import)
-      → OnSound (HasCleanDisk new) (λ p. IsSettled current old p)
+      → IfOk import (λ a. OnKit (HasCleanDisk new) (λ p. IsSettled current mid p) told
+      (λ files p. IsImportAnswered files name p (λ q. IsSettled current new q) a))
+      → IfErr import (λ e. OnKit (HasCleanDisk new) (λ p. IsSettled current mid p) told
+      (λ files p. IsImportStopped files name p (λ db. new.may_leave db) StandsForCurrent e.staged))
+      → OnSound (HasCleanDisk new) (λ p. IsSettled current mid p)
       (λ p. IsImportKept name p (λ q. IsSettled current new q) (λ db. new.may_leave db) StandsForCurrent import)
       → (after : Trees) → new.may_leave after → LeavesImport told name old.committed.trees after (Ok import)
-  leaves_import told name import was imported kept after may p stands meets = record {
-    kept = kept_left name p after may import (kept clean p (settles was p stands, meets));
-    imported = λ files is. imported_left name p after may files import
-        (imported clean p (settles was p stands, meets) files is);
-  }
+  leaves_import told name import answered stopped kept after may p stands meets =
+      let settled = settled_for old mid fresh adopted (was clean) p stands in record {
+        kept = kept_left old new fresh clean name p after may import (kept clean p (settled, meets));
+        imported = λ files is. imported_left old new fresh clean name p after may files import
+            (import_of _ _ _ _ _ import answered stopped clean p (settled, meets) files is);
+      }
 
--- ---- a service
+-- ---- a session that changed nothing
 
 tells_served : (found : Trees) (served : Result ℕ Stop) → WasFoundWell found
     → IfErr served (λ why. why ≡ stops.Fault (record { 0 = 96 })) → TellsServed found served
@@ -244,15 +251,37 @@ tells_served found (Ok status) well unbound = well
 tells_served found (Err why) well unbound = λ p stands. inr (well.meets p stands, unbound)
 
 module _ (old mid new : State) (fresh : HasCleanDisk old → IsJustOpened old) (clean : HasCleanDisk new)
-    (adopted : IsAdopted old mid) (kept : LeavesPackage mid new) where
+    (adopted : IsAdopted old mid) (quiet : CommitsNothing mid new) where
   early : HasCleanDisk mid
-  early = nothing_less _ _ kept.survives.clean clean
+  early = nothing_less _ _ quiet.clean clean
+
+  well : WasFoundWell old.committed.trees
+  well = was_well old mid fresh adopted early
+
+  -- it reads as a package that the database stands for
+  pub seen_for : (p : Package) → StandsForCurrent old.committed.trees p → IsSeenAs current mid p
+  seen_for p stands = seen_of current mid p (settled_for old mid fresh adopted early p stands)
+
+  pub on_for : (p : Package) → StandsForCurrent old.committed.trees p → IsOn false mid new p
+  on_for p stands works = (clean, well.meets p stands, seen_for p stands)
+
+  pub leaves_service : (after : Trees) → new.may_leave after → LeavesSame old.committed.trees after
+  leaves_service = leaves_same old new fresh clean (quiet_then old mid new adopted.survives quiet)
 
   pub tells_service : (served : Result ℕ Stop) → IfErr served (λ why. why ≡ stops.Fault (record { 0 = 96 }))
       → TellsServed old.committed.trees served
-  tells_service served unbound = tells_served _ served
-      (found_well old new fresh clean (λ _. nothing_less _ _ adopted.survives.clean early)
-      (was_adopted old mid new adopted (λ _. early))) unbound
+  tells_service served unbound = tells_served _ served well unbound
 
-  pub leaves_service : (after : Trees) → new.may_leave after → LeavesSame old.committed.trees after
-  leaves_service = leaves_same old new fresh clean (quiet_then old mid new adopted.survives kept.survives)
+  -- ---- a text
+  pub tells_text : {T : Type 0} (text : Package → Text) (came : Package → T) (held holds : Written) (it : T)
+      → ((p : Package) → StandsForCurrent old.committed.trees p
+      → Appends held.contents holds.contents (text p) × (it ≡ came p))
+      → TellsText text came old.committed.trees held holds (Ok it)
+  tells_text text came held holds it told = (well, told)
+
+  pub tells_cut : {T : Type 0} (text : Package → Text) (came : Package → T) (held holds : Written) (fault : Fault)
+      → ((p : Package) → StandsForCurrent old.committed.trees p → IsBegun held.contents holds.contents (text p))
+      → ListingTellsWriter held.failed holds.failed (Err fault)
+      → TellsText text came old.committed.trees held holds (Err (stops.Fault fault))
+  tells_cut text came held holds fault begun writer p stands =
+      inr (well.meets p stands, begun p stands, (fault, writer, refl))

@@ -25,7 +25,7 @@ use Rattle.mm_core.specs.Applied.{StandsForCurrent}
 use Rattle.mm_kit.specs.Folders.{Files}
 use Rattle.mm_kit.specs.Imports.{IsImportAnswered, IsImportKept, IsImportStopped}
 use Rattle.mm_core.specs.Listing.{listing}
-use Rattle.mm_core.specs.Writing.{IsBegun}
+use Rattle.mm_core.specs.Writing.{IsBegun, ListingTellsWriter}
 use Rattle.mm_core.specs.Runs.{RanAll, RanSome}
 use Rattle.mm_core.specs.Shown.{Shown}
 use Rattle.mm_work.specs.Declined.{stop_of}
@@ -60,11 +60,12 @@ TellsChecked found (Ok done) = WasFoundWell found
 TellsChecked found (Err why) = TellsDeclined found why
 
 -- the package is declined, and nothing was printed; or it meets the rules, and a fault ended the text behind its
--- beginning
+-- beginning: 97 exactly where the writer failed, and else 90 or 91
 abbrev pub IsTextEnded : Text → Package → Written → Written → Stop → Type 0
 IsTextEnded text p old new why =
     (IsDeclinedFor p why × (new ≡ old))
-    ⊎ (Meets current p × IsBegun old.contents new.contents text × ((fault : Fault) × (why ≡ stops.Fault fault)))
+    ⊎ (Meets current p × IsBegun old.contents new.contents text
+    × ((fault : Fault) × ListingTellsWriter old.failed new.failed (Err fault) × (why ≡ stops.Fault fault)))
 
 -- the text that is printed is the one of the package, which meets the rules, and it comes to what goes with that
 abbrev pub TellsText : {T : Type 0} → (Package → Text) → (Package → T) → Trees → Written → Written → Result T Stop

@@ -3,6 +3,7 @@ use Rattle.std.specs.Prelude.{◌≡◌, ◌≤◌, ◌⊎◌, ◌==◌, ⊤, �
 use Rattle.mm_definitions.specs.Streams.{Written}
 use Rattle.mm_definitions.specs.declared.answers.KitFault.{KitFault}
 use Rattle.mm_definitions.specs.declared.answers.Staged.{Staged}
+use Rattle.mm_files.specs.Worked.{closes_behind}
 use Rattle.mm_work.specs.Told.{stop_status}
 use Rattle.mm_work.specs.declared.stop.Stop.{Stop}
 use Rattle.mm_program.specs.Served.{IsServing, ServiceEnds}
@@ -11,19 +12,24 @@ use Rattle.mm_program.specs.Served.{IsServing, ServiceEnds}
 
 -- work that was done
 abbrev pub closes_done : Result (Unit {0}) Stop → Bool
-closes_done (Ok done) = true
-closes_done (Err why) = false
+closes_done = closes_behind (λ done. true)
 
--- so of what has a status, where it is not that of a fault
+-- a status that is not that of a fault
+abbrev pub is_well : ℕ → Bool
+is_well status = not (status == 3)
+
+-- work that was done with such a one
 abbrev pub closes_run : Result ℕ Stop → Bool
-closes_run (Ok status) = not (status == 3)
-closes_run (Err why) = false
+closes_run = closes_behind is_well
 
--- so of an import, where no fault ended it
+-- an import that no fault ended
+abbrev pub is_answered : Result Staged KitFault → Bool
+is_answered (Ok staged) = true
+is_answered (Err stopped) = false
+
+-- work that came to such a one
 abbrev pub closes_import : Result (Result Staged KitFault) Stop → Bool
-closes_import (Ok (Ok staged)) = true
-closes_import (Ok (Err stopped)) = false
-closes_import (Err why) = false
+closes_import = closes_behind is_answered
 
 -- ---- what it comes to
 

@@ -14,7 +14,7 @@ ghost use Rattle.mm_program.specs.Desks.{IsAttended, IsDeskDone, LeavesDesk, Nam
 ghost use Rattle.mm_program.specs.Desks.{address_text, table_of};
 ghost use Rattle.mm_program.specs.Stops.{StopsAny};
 ghost use Rattle.mm_program.specs.Told.{TellsSitting};
-ghost use Rattle.mm_program.specs.Worked.{closes_run};
+ghost use Rattle.mm_program.specs.Worked.{is_well};
 ghost use Rattle.mm_work.specs.Told.{TellsFailure};
 
 use crate::clock::{Now, moment_or_now};
@@ -28,7 +28,7 @@ use mm_definitions::answers::{Fault, PageFault};
 use mm_definitions::names::{Name, is_name};
 use mm_definitions::streams::Io;
 use mm_desk::{Comes, Done, Gate, desk_one};
-use mm_files::{Left, Works};
+use mm_files::{Handed, Left, Works};
 use mm_run::Apply;
 use mm_work::{FAULT, REFUSED, Stop, adopt_package, is_printed, tell_bytes, tell_stop};
 use sqlite::{Alter, Connection, FileFrom, Start};
@@ -211,7 +211,9 @@ fn desk_port<S: Alter, W: Write>(
 }
 
 impl<'a> Works for DeskWork<'a> {
-    type Done = Result<u8, Stop>;
+    type Done = u8;
+
+    type Why = Stop;
 
     const WRITES: bool = true;
 
@@ -221,7 +223,7 @@ impl<'a> Works for DeskWork<'a> {
 
     ghost leaves = { λ work found after old new done. LeavesDesk found after done };
 
-    ghost closes = { closes_run };
+    ghost closes = { is_well };
 
     // The port is bound once the package is adopted.
     fn work<S: Alter + Drop, W: Write>(
@@ -229,19 +231,18 @@ impl<'a> Works for DeskWork<'a> {
         alloc: Global,
         conn: Connection<S>,
         output: &mut Io<W>,
-    ) -> (Connection<S>, Result<u8, Stop>) {
-        let mut session = match adopt_package(alloc, conn) {
-            Ok(session) => session,
-            Err((conn, why)) => return (conn, Err(why)),
-        };
-        let done = desk_port(self, &mut session, output);
-        (session.close(), done)
+    ) -> Handed<S, u8, Stop> {
+        let mut session = adopt_package(alloc, conn)?;
+        match desk_port(self, &mut session, output) {
+            Ok(status) => Ok((session.close(), status)),
+            Err(why) => Err((session.close(), why)),
+        }
     }
 
-    fn closes(done: Result<u8, Stop>) -> bool
-        ensures { result ≡ closes_run done }
+    fn closes(status: u8) -> bool
+        ensures { result ≡ is_well status }
     {
-        ends_well(done)
+        ends_well(status)
     }
 }
 

@@ -5,7 +5,8 @@ ghost use Rattle.sqlite.specs.WalFiles.{image_at};
 ghost use Rattle.mm_definitions.specs.Streams.{written};
 ghost use Rattle.mm_core.specs.Writing.{IsOut};
 ghost use Rattle.mm_program.specs.Files.{StopsAny, StopsNew, StopsOld, StopsOn, WasBare, WorksOnFile, stop_for};
-ghost use Rattle.mm_program.specs.Worked.{closes_run};
+ghost use Rattle.mm_files.specs.Worked.{closes_behind};
+ghost use Rattle.mm_program.specs.Worked.{is_well};
 
 use mm_definitions::answers::Fault;
 use mm_definitions::streams::Io;
@@ -73,18 +74,15 @@ fn stop_of(why: NotDone) -> Stop
     }
 }
 
-/// Whether the files are to be closed behind work that has a status: not where that is a fault's, or it was not done.
-pub(crate) fn ends_well(done: Result<u8, Stop>) -> bool
-    ensures { result ≡ closes_run done }
+/// Whether the files are to be closed behind work that has this status: not where it is a fault's.
+pub(crate) fn ends_well(status: u8) -> bool
+    ensures { result ≡ is_well status }
 {
-    match done {
-        Ok(status) => status != FAULT,
-        Err(_) => false,
-    }
+    status != FAULT
 }
 
 /// Does work on a file of so many bytes, or on a new one.
-fn on_length<'a, S: Start, T: Copy, K: Works<Done = Result<T, Stop>>, W: Write>(
+fn on_length<'a, S: Start, T: Copy, K: Works<Done = T, Why = Stop>, W: Write>(
     rt: &HostRuntime,
     path: &'a str,
     length: Option<u64>,
@@ -93,7 +91,7 @@ fn on_length<'a, S: Start, T: Copy, K: Works<Done = Result<T, Stop>>, W: Write>(
     output: &mut Io<W>,
 ) -> Worked<'a, S, T>
     ensures worked { WorksOnFile ⟦<FileFrom<S> as Disk>⟧ (image_at S.Start) path.now (StopsOn length)
-        (K.comes_to work.old) (K.tells work.old) (K.leaves work.old) K.closes
+        (K.comes_to work.old) (K.tells work.old) (K.leaves work.old) (closes_behind K.closes)
         (written W.contents output.old) (written W.contents output.new) result.0 result.1 }
     ensures bare { length ≡ None → WasBare ⟦<FileFrom<S> as Disk>⟧ (image_at S.Start) result.1 }
     ensures out { IsOut output.old → IsOut output.new }
@@ -105,7 +103,7 @@ fn on_length<'a, S: Start, T: Copy, K: Works<Done = Result<T, Stop>>, W: Write>(
 }
 
 /// Does work on a file that is to be made: neither it nor its journal holds a byte.
-pub fn on_new<'a, S: Start, T: Copy, K: Works<Done = Result<T, Stop>>, W: Write>(
+pub fn on_new<'a, S: Start, T: Copy, K: Works<Done = T, Why = Stop>, W: Write>(
     rt: &HostRuntime,
     path: &'a str,
     start: S,
@@ -113,7 +111,7 @@ pub fn on_new<'a, S: Start, T: Copy, K: Works<Done = Result<T, Stop>>, W: Write>
     output: &mut Io<W>,
 ) -> Worked<'a, S, T>
     ensures worked { WorksOnFile ⟦<FileFrom<S> as Disk>⟧ (image_at S.Start) path.now StopsNew
-        (K.comes_to work.old) (K.tells work.old) (K.leaves work.old) K.closes
+        (K.comes_to work.old) (K.tells work.old) (K.leaves work.old) (closes_behind K.closes)
         (written W.contents output.old) (written W.contents output.new) result.0 result.1 }
     ensures bare { WasBare ⟦<FileFrom<S> as Disk>⟧ (image_at S.Start) result.1 }
     ensures out { IsOut output.old → IsOut output.new }
@@ -126,7 +124,7 @@ pub fn on_new<'a, S: Start, T: Copy, K: Works<Done = Result<T, Stop>>, W: Write>
 }
 
 /// Does work on a file that is there.
-pub fn on_old<'a, S: Start, T: Copy, K: Works<Done = Result<T, Stop>>, W: Write>(
+pub fn on_old<'a, S: Start, T: Copy, K: Works<Done = T, Why = Stop>, W: Write>(
     rt: &HostRuntime,
     path: &'a str,
     start: S,
@@ -134,7 +132,7 @@ pub fn on_old<'a, S: Start, T: Copy, K: Works<Done = Result<T, Stop>>, W: Write>
     output: &mut Io<W>,
 ) -> Worked<'a, S, T>
     ensures worked { WorksOnFile ⟦<FileFrom<S> as Disk>⟧ (image_at S.Start) path.now StopsOld
-        (K.comes_to work.old) (K.tells work.old) (K.leaves work.old) K.closes
+        (K.comes_to work.old) (K.tells work.old) (K.leaves work.old) (closes_behind K.closes)
         (written W.contents output.old) (written W.contents output.new) result.0 result.1 }
     ensures out { IsOut output.old → IsOut output.new }
 {

@@ -8,7 +8,7 @@ ghost use Rattle.mm_work.specs.Told.{TellsFailure};
 ghost use Rattle.mm_program.specs.Files.{IsFew, OnFile, StopsOld};
 ghost use Rattle.mm_program.specs.Left.{LeavesImport, TellsImport};
 ghost use Rattle.mm_program.specs.Told.{TellsKit};
-ghost use Rattle.mm_program.specs.Worked.{closes_import};
+ghost use Rattle.mm_program.specs.Worked.{closes_import, is_answered};
 
 use crate::clock::{Now, moment_or_now};
 use crate::files::{Worked, on_old};
@@ -17,10 +17,10 @@ use mm_definitions::answers::Fault;
 use mm_definitions::moments::Moment;
 use mm_definitions::names::Name;
 use mm_definitions::streams::Io;
-use mm_files::{Left, Works};
-use mm_kit::{Folder, FolderFault, Found};
+use mm_files::{Handed, Left, Works};
+use mm_kit::{Folder, FolderFault, Found, import_kit};
 use mm_remarks::Pieces;
-use mm_work::{Import, REFUSED, Stop, import_package, tell_bytes, tell_import, tell_stop};
+use mm_work::{Import, REFUSED, Stop, adopt_package, tell_bytes, tell_import, tell_stop};
 use sqlite::{Alter, Connection, FileFrom, Start};
 use sqlite_disk::Disk;
 use std::alloc::Global;
@@ -154,7 +154,9 @@ struct Importing<'a, F: Folder> {
 }
 
 impl<'a, F: Folder> Works for Importing<'a, F> {
-    type Done = Result<Import, Stop>;
+    type Done = Import;
+
+    type Why = Stop;
 
     const WRITES: bool = true;
 
@@ -165,27 +167,23 @@ impl<'a, F: Folder> Works for Importing<'a, F> {
     ghost leaves = { λ work found after old new done.
         LeavesImport (F.files work.folder) work.edition.now found after done };
 
-    ghost closes = { closes_import };
+    ghost closes = { is_answered };
 
     fn work<S: Alter + Drop, W: Write>(
         &mut self,
         alloc: Global,
         conn: Connection<S>,
         _output: &mut Io<W>,
-    ) -> (Connection<S>, Result<Import, Stop>) {
-        match import_package(alloc, conn, self.edition, &mut self.folder, self.at) {
-            Ok((conn, import)) => (conn, Ok(import)),
-            Err((conn, why)) => (conn, Err(why)),
-        }
+    ) -> Handed<S, Import, Stop> {
+        let mut session = adopt_package(alloc, conn)?;
+        let import = import_kit(alloc, &mut session, self.edition, &mut self.folder, self.at);
+        Ok((session.close(), import))
     }
 
-    fn closes(done: Result<Import, Stop>) -> bool
-        ensures { result ≡ closes_import done }
+    fn closes(import: Import) -> bool
+        ensures { result ≡ is_answered import }
     {
-        match done {
-            Ok(import) => import.is_ok(),
-            Err(_) => false,
-        }
+        import.is_ok()
     }
 }
 

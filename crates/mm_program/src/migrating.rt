@@ -1,18 +1,18 @@
 //! The subcommand `migrate`.
 
-ghost use Rattle.std.specs.Prelude.{◌≤◌, IfErr};
+ghost use Rattle.std.specs.Prelude.{◌≤◌, true, IfErr};
 ghost use Rattle.sqlite.specs.WalFiles.{image_at};
 ghost use Rattle.mm_definitions.specs.Streams.{has_failed, written};
 ghost use Rattle.mm_core.specs.Writing.{IsOut};
 ghost use Rattle.mm_work.specs.Told.{TellsFailure};
 ghost use Rattle.mm_program.specs.Left.{LeavesMigrated, TellsMigrated};
 ghost use Rattle.mm_program.specs.Told.{StopsCheck, TellsMigrate};
-ghost use Rattle.mm_program.specs.Worked.{closes_done};
 
 use crate::files::on_old;
+use mm_core::Session;
 use mm_definitions::streams::Io;
-use mm_files::{Left, Works};
-use mm_work::{Stop, migrate_package, tell_migration};
+use mm_files::{Handed, Left, Works};
+use mm_work::{Stop, tell_migration};
 use sqlite::{Alter, Connection, FileFrom, Start};
 use sqlite_disk::Disk;
 use std::alloc::Global;
@@ -24,7 +24,9 @@ use std::io::Write;
 struct Migration;
 
 impl Works for Migration {
-    type Done = Result<(), Stop>;
+    type Done = ();
+
+    type Why = Stop;
 
     const WRITES: bool = true;
 
@@ -34,22 +36,22 @@ impl Works for Migration {
 
     ghost leaves = { λ work found after old new done. LeavesMigrated found after done };
 
-    ghost closes = { closes_done };
+    ghost closes = { λ done. true };
 
     fn work<S: Alter + Drop, W: Write>(
         &mut self,
         alloc: Global,
         conn: Connection<S>,
         _output: &mut Io<W>,
-    ) -> (Connection<S>, Result<(), Stop>) {
-        match migrate_package(alloc, conn) {
-            Ok(conn) => (conn, Ok(())),
-            Err((conn, why)) => (conn, Err(why)),
+    ) -> Handed<S, (), Stop> {
+        match Session::migrate(alloc, conn) {
+            Ok(session) => Ok((session.close(), ())),
+            Err((conn, cause)) => Err((conn, Stop::from(cause))),
         }
     }
 
-    fn closes(done: Result<(), Stop>) -> bool {
-        done.is_ok()
+    fn closes(_done: ()) -> bool {
+        true
     }
 }
 

@@ -6,6 +6,7 @@ ghost use Rattle.mm_definitions.specs.Streams.{Written, has_failed, written};
 ghost use Rattle.mm_core.specs.Writing.{IsOut};
 ghost use Rattle.mm_work.specs.Told.{TellsFailure};
 ghost use Rattle.mm_work.specs.declared.stop.Stop.{Stop as Why};
+ghost use Rattle.mm_files.specs.Worked.{closes_behind};
 ghost use Rattle.mm_program.specs.Told.{TellsDecline, TellsWork};
 ghost use Rattle.mm_program.specs.Worked.{StatusEnds};
 
@@ -43,7 +44,7 @@ impl Exits for u8 {
 }
 
 /// Does work that prints, on a file that is there; where it was not done, or could not be told, that is told behind it.
-pub(crate) fn work_and_tell<'a, S: Start, T: Exits, K: Works<Done = Result<T, Stop>>, W: Write>(
+pub(crate) fn work_and_tell<'a, S: Start, T: Exits, K: Works<Done = T, Why = Stop>, W: Write>(
     rt: &HostRuntime,
     path: &'a str,
     start: S,
@@ -59,7 +60,7 @@ pub(crate) fn work_and_tell<'a, S: Start, T: Exits, K: Works<Done = Result<T, St
         (K.comes_to work.old) (λ found between done.
         K.tells work.old found (written W.contents output.old) between done)
         (λ found after between done.
-        K.leaves work.old found after (written W.contents output.old) between done) K.closes }
+        K.leaves work.old found after (written W.contents output.old) between done) (closes_behind K.closes) }
     ensures status { result.0 ≤ 4 }
     ensures unprinted { TellsFailure (has_failed output.old) (has_failed output.new) result.0 }
     ensures out { IsOut output.old → IsOut output.new }

@@ -1,19 +1,19 @@
 //! The subcommands that change nothing.
 
-ghost use Rattle.std.specs.Prelude.{◌≡◌, ◌≤◌, false, IfErr};
+ghost use Rattle.std.specs.Prelude.{◌≡◌, ◌≤◌, false, true, IfErr};
 ghost use Rattle.sqlite.specs.WalFiles.{image_at};
 ghost use Rattle.mm_definitions.specs.Streams.{has_failed, written};
 ghost use Rattle.mm_core.specs.Writing.{IsOut};
 ghost use Rattle.mm_work.specs.Told.{TellsFailure};
 ghost use Rattle.mm_program.specs.Left.{LeavesSame, TellsChecked, TellsListing};
 ghost use Rattle.mm_program.specs.Told.{StopsCheck, TellsCheck, TellsDecline, TellsList};
-ghost use Rattle.mm_program.specs.Worked.{StatusEnds, closes_done};
+ghost use Rattle.mm_program.specs.Worked.{StatusEnds};
 
 use crate::files::on_old;
 use crate::outcomes::work_and_tell;
 use mm_definitions::streams::Io;
-use mm_files::{Left, Works};
-use mm_work::{Stop, check_package, list_package, tell_check};
+use mm_files::{Handed, Left, Works};
+use mm_work::{Stop, adopt_package, tell_check};
 use sqlite::{Alter, Connection, FileFrom, Start};
 use sqlite_disk::Disk;
 use std::alloc::Global;
@@ -25,7 +25,9 @@ use std::io::Write;
 struct Check;
 
 impl Works for Check {
-    type Done = Result<(), Stop>;
+    type Done = ();
+
+    type Why = Stop;
 
     const WRITES: bool = false;
 
@@ -35,22 +37,20 @@ impl Works for Check {
 
     ghost leaves = { λ work found after old new done. LeavesSame found after };
 
-    ghost closes = { closes_done };
+    ghost closes = { λ done. true };
 
     fn work<S: Alter + Drop, W: Write>(
         &mut self,
         alloc: Global,
         conn: Connection<S>,
         _output: &mut Io<W>,
-    ) -> (Connection<S>, Result<(), Stop>) {
-        match check_package(alloc, conn) {
-            Ok(conn) => (conn, Ok(())),
-            Err((conn, why)) => (conn, Err(why)),
-        }
+    ) -> Handed<S, (), Stop> {
+        let session = adopt_package(alloc, conn)?;
+        Ok((session.close(), ()))
     }
 
-    fn closes(done: Result<(), Stop>) -> bool {
-        done.is_ok()
+    fn closes(_done: ()) -> bool {
+        true
     }
 }
 
@@ -76,7 +76,9 @@ pub(crate) fn check_told<'a, S: Start, W: Write>(
 struct Listing;
 
 impl Works for Listing {
-    type Done = Result<(), Stop>;
+    type Done = ();
+
+    type Why = Stop;
 
     const WRITES: bool = false;
 
@@ -86,22 +88,23 @@ impl Works for Listing {
 
     ghost leaves = { λ work found after old new done. LeavesSame found after };
 
-    ghost closes = { closes_done };
+    ghost closes = { λ done. true };
 
     fn work<S: Alter + Drop, W: Write>(
         &mut self,
         alloc: Global,
         conn: Connection<S>,
         output: &mut Io<W>,
-    ) -> (Connection<S>, Result<(), Stop>) {
-        match list_package(alloc, conn, output) {
-            Ok(conn) => (conn, Ok(())),
-            Err((conn, why)) => (conn, Err(why)),
+    ) -> Handed<S, (), Stop> {
+        let mut session = adopt_package(alloc, conn)?;
+        match session.list(output) {
+            Ok(()) => Ok((session.close(), ())),
+            Err(fault) => Err((session.close(), Stop::Fault(fault))),
         }
     }
 
-    fn closes(done: Result<(), Stop>) -> bool {
-        done.is_ok()
+    fn closes(_done: ()) -> bool {
+        true
     }
 }
 

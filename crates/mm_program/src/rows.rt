@@ -7,14 +7,14 @@ ghost use Rattle.mm_core.specs.Writing.{IsOut};
 ghost use Rattle.mm_work.specs.Told.{TellsFailure};
 ghost use Rattle.mm_program.specs.Left.{LeavesSame, TellsShown};
 ghost use Rattle.mm_program.specs.Told.{TellsDecline, TellsShow};
-ghost use Rattle.mm_program.specs.Worked.{ShowingEnds, closes_run};
+ghost use Rattle.mm_program.specs.Worked.{ShowingEnds, is_well};
 
 use crate::files::ends_well;
 use crate::outcomes::work_and_tell;
 use mm_definitions::names::Name;
 use mm_definitions::streams::Io;
-use mm_files::{Left, Works};
-use mm_work::{REFUSED, Stop, show_package, tell_bytes};
+use mm_files::{Handed, Left, Works};
+use mm_work::{REFUSED, Stop, adopt_package, rows_told, tell_bytes};
 use sqlite::{Alter, Connection, FileFrom, Start};
 use sqlite_disk::Disk;
 use std::alloc::Global;
@@ -28,7 +28,9 @@ struct Showing<'a> {
 }
 
 impl<'a> Works for Showing<'a> {
-    type Done = Result<u8, Stop>;
+    type Done = u8;
+
+    type Why = Stop;
 
     const WRITES: bool = false;
 
@@ -38,24 +40,25 @@ impl<'a> Works for Showing<'a> {
 
     ghost leaves = { λ work found after old new done. LeavesSame found after };
 
-    ghost closes = { closes_run };
+    ghost closes = { is_well };
 
     fn work<S: Alter + Drop, W: Write>(
         &mut self,
         alloc: Global,
         conn: Connection<S>,
         output: &mut Io<W>,
-    ) -> (Connection<S>, Result<u8, Stop>) {
-        match show_package(alloc, conn, self.table, self.id, output) {
-            Ok((conn, status)) => (conn, Ok(status)),
-            Err((conn, why)) => (conn, Err(why)),
+    ) -> Handed<S, u8, Stop> {
+        let mut session = adopt_package(alloc, conn)?;
+        match rows_told(alloc, &mut session, self.table, self.id, output) {
+            Ok(status) => Ok((session.close(), status)),
+            Err(fault) => Err((session.close(), Stop::Fault(fault))),
         }
     }
 
-    fn closes(done: Result<u8, Stop>) -> bool
-        ensures { result ≡ closes_run done }
+    fn closes(status: u8) -> bool
+        ensures { result ≡ is_well status }
     {
-        ends_well(done)
+        ends_well(status)
     }
 }
 

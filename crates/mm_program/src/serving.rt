@@ -13,7 +13,7 @@ ghost use Rattle.mm_core.specs.Viewers.{LeavesPackage};
 ghost use Rattle.mm_program.specs.Left.{LeavesSame, TellsServed};
 ghost use Rattle.mm_program.specs.Served.{IsServing, TellsServe};
 ghost use Rattle.mm_program.specs.Told.{TellsService};
-ghost use Rattle.mm_program.specs.Worked.{IsPageServed, closes_run};
+ghost use Rattle.mm_program.specs.Worked.{IsPageServed, is_well};
 
 use crate::connections::{Serves, serve_on};
 use crate::files::ends_well;
@@ -22,7 +22,7 @@ use crate::sockets::{Reading, next_stream, read_off};
 use mm_core::Session;
 use mm_definitions::answers::{Fault, PageFault};
 use mm_definitions::streams::Io;
-use mm_files::{Left, Works};
+use mm_files::{Handed, Left, Works};
 use mm_page::serve_one;
 use mm_work::{FAULT, Stop, adopt_package, tell_serving};
 use sqlite::{Alter, Connection, FileFrom, Start};
@@ -103,7 +103,9 @@ struct Page<'a> {
 }
 
 impl<'a> Works for Page<'a> {
-    type Done = Result<u8, Stop>;
+    type Done = u8;
+
+    type Why = Stop;
 
     const WRITES: bool = false;
 
@@ -113,7 +115,7 @@ impl<'a> Works for Page<'a> {
 
     ghost leaves = { λ work found after old new done. LeavesSame found after };
 
-    ghost closes = { closes_run };
+    ghost closes = { is_well };
 
     // The port is bound once the package is adopted.
     fn work<S: Alter + Drop, W: Write>(
@@ -121,19 +123,18 @@ impl<'a> Works for Page<'a> {
         alloc: Global,
         conn: Connection<S>,
         output: &mut Io<W>,
-    ) -> (Connection<S>, Result<u8, Stop>) {
-        let mut session = match adopt_package(alloc, conn) {
-            Ok(session) => session,
-            Err((conn, why)) => return (conn, Err(why)),
-        };
-        let served = serve_port(self.rt, &mut session, self.port, self.count, output);
-        (session.close(), served)
+    ) -> Handed<S, u8, Stop> {
+        let mut session = adopt_package(alloc, conn)?;
+        match serve_port(self.rt, &mut session, self.port, self.count, output) {
+            Ok(status) => Ok((session.close(), status)),
+            Err(why) => Err((session.close(), why)),
+        }
     }
 
-    fn closes(done: Result<u8, Stop>) -> bool
-        ensures { result ≡ closes_run done }
+    fn closes(status: u8) -> bool
+        ensures { result ≡ is_well status }
     {
-        ends_well(done)
+        ends_well(status)
     }
 }
 

@@ -1,6 +1,6 @@
 //! The program as a function of its words, its input and its output.
 
-ghost use Rattle.std.specs.Prelude.{◌≡◌, ◌≤◌, false, IfErr, map, ⊤};
+ghost use Rattle.std.specs.Prelude.{◌≡◌, ◌≤◌, false, true, IfErr, map, ⊤};
 ghost use Rattle.sqlite.specs.WalFiles.{image_at};
 ghost use Rattle.mm_definitions.specs.Streams.{has_failed, inside, written};
 ghost use Rattle.clap.specs.Words.{kind_of};
@@ -9,10 +9,10 @@ ghost use Rattle.mm_core.specs.Writing.{IsOut};
 ghost use Rattle.mm_files.specs.declared.left.Left as lefts;
 ghost use Rattle.sqlite_disk.specs.declared.start.Wary.{Wary};
 ghost use Rattle.mm_work.specs.Told.{TellsFailure};
-ghost use Rattle.mm_program.specs.Files.{StopsNew};
+ghost use Rattle.mm_program.specs.Files.{StopsStore};
 ghost use Rattle.mm_program.specs.Left.{LeavesMade, LeavesRun, TellsRun};
 ghost use Rattle.mm_program.specs.Told.{TellsDecline, TellsInit, TellsRan, TellsStatus, TellsWords};
-ghost use Rattle.mm_program.specs.Worked.{RunEnds, closes_done, closes_run};
+ghost use Rattle.mm_program.specs.Worked.{RunEnds, is_well};
 
 use crate::clock::{Now, moment_or_now};
 use crate::desks::desk_told;
@@ -25,12 +25,13 @@ use crate::reporting::{check_told, list_told};
 use crate::rows::show_told;
 use crate::serving::serve_told;
 use mm_arguments::{Request, read_arguments, status_of};
+use mm_core::Session;
 use mm_definitions::answers::Fault;
 use mm_definitions::moments::Moment;
 use mm_definitions::streams::Io;
-use mm_files::{Left, Works};
+use mm_files::{Handed, Left, Works};
 use mm_work::{
-    REFUSED, Stop, make_package, run_package, tell_bytes, tell_init, tell_stop, tell_text,
+    REFUSED, Stop, adopt_package, run_session, tell_bytes, tell_init, tell_stop, tell_text,
 };
 use sqlite::{Alter, Connection, FileFrom, Start, Wary};
 use sqlite_disk::Disk;
@@ -43,32 +44,34 @@ use std::io::{Read, Write};
 struct Making;
 
 impl Works for Making {
-    type Done = Result<(), Stop>;
+    type Done = ();
+
+    type Why = Stop;
 
     const WRITES: bool = true;
 
-    ghost comes_to = { λ work old new done. IfErr done StopsNew };
+    ghost comes_to = { λ work old new done. IfErr done StopsStore };
 
     ghost tells = { λ work found old new done. ⊤ };
 
     ghost leaves = { λ work found after old new done. LeavesMade found after done };
 
-    ghost closes = { closes_done };
+    ghost closes = { λ done. true };
 
     fn work<S: Alter + Drop, W: Write>(
         &mut self,
         alloc: Global,
         conn: Connection<S>,
         _output: &mut Io<W>,
-    ) -> (Connection<S>, Result<(), Stop>) {
-        match make_package(alloc, conn) {
-            Ok(conn) => (conn, Ok(())),
-            Err((conn, why)) => (conn, Err(why)),
+    ) -> Handed<S, (), Stop> {
+        match Session::create(alloc, conn) {
+            Ok(session) => Ok((session.close(), ())),
+            Err((conn, fault)) => Err((conn, Stop::Fault(fault))),
         }
     }
 
-    fn closes(done: Result<(), Stop>) -> bool {
-        done.is_ok()
+    fn closes(_done: ()) -> bool {
+        true
     }
 }
 
@@ -80,7 +83,9 @@ struct Run<'a, R: Read> {
 }
 
 impl<'a, R: Read> Works for Run<'a, R> {
-    type Done = Result<u8, Stop>;
+    type Done = u8;
+
+    type Why = Stop;
 
     const WRITES: bool = true;
 
@@ -90,24 +95,23 @@ impl<'a, R: Read> Works for Run<'a, R> {
 
     ghost leaves = { λ work. LeavesRun (R.remaining (inside work.input.now)) work.at };
 
-    ghost closes = { closes_run };
+    ghost closes = { is_well };
 
     fn work<S: Alter + Drop, W: Write>(
         &mut self,
         alloc: Global,
         conn: Connection<S>,
         output: &mut Io<W>,
-    ) -> (Connection<S>, Result<u8, Stop>) {
-        match run_package(alloc, conn, self.input, output, self.at) {
-            Ok((conn, status)) => (conn, Ok(status)),
-            Err((conn, why)) => (conn, Err(why)),
-        }
+    ) -> Handed<S, u8, Stop> {
+        let mut session = adopt_package(alloc, conn)?;
+        let status = run_session(&mut session, self.input, output, self.at);
+        Ok((session.close(), status))
     }
 
-    fn closes(done: Result<u8, Stop>) -> bool
-        ensures { result ≡ closes_run done }
+    fn closes(status: u8) -> bool
+        ensures { result ≡ is_well status }
     {
-        ends_well(done)
+        ends_well(status)
     }
 }
 

@@ -8,7 +8,7 @@ use mm_definitions::streams::Io;
 use mm_recovery::{close_files, open_files};
 use mm_test_packages::{create, open};
 use mm_work::{
-    DONE, FAULT, NoPackage, Stop, make_package, run_package, tell_init, tell_stop, tell_text,
+    DONE, FAULT, NoPackage, Stop, adopt_package, run_session, tell_init, tell_stop, tell_text,
 };
 use sqlite::{Alter, Connection, FileStore, Files, Options};
 use sqlite_disk::{Disk, Memory};
@@ -23,7 +23,7 @@ fn make<S: Alter + Drop>(alloc: Global, conn: Connection<S>) -> Option<Connectio
     if !conn.is_autocommit() {
         return None;
     }
-    make_package(alloc, conn).ok()
+    Some(create(alloc, conn)?.close())
 }
 
 /// The status of a run, and the connection.
@@ -36,7 +36,9 @@ fn run<S: Alter + Drop, R: Read, W: io::Write>(
     if !conn.is_autocommit() {
         return None;
     }
-    run_package(alloc, conn, reader, writer, Moment::new(0)?).ok()
+    let mut session = adopt_package(alloc, conn).ok()?;
+    let status = run_session(&mut session, reader, writer, Moment::new(0)?);
+    Some((session.close(), status))
 }
 
 /// Runs the records that the reader gives on a new package: the connection, the fault or 0, and the tally.

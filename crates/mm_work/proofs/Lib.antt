@@ -1,3 +1,1 @@
-pub mod Texts
-mod Imported
 mod Showing

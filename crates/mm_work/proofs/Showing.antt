@@ -3,23 +3,14 @@ use Rattle.std.proofs.Common.{◌≡◌, ◌∙◌, ℕ, ℤ, false, true, List,
 use Rattle.std.proofs.Common.{sym, ap, subst}
 use Rattle.std.specs.Prelude.{IsErr}
 use Rattle.std.specs.Io.KnownBytes.{Appends}
-use Rattle.sqlite.specs.State.{State, HasCleanDisk}
-use Rattle.mm_definitions.specs.Bounds.{current}
 use Rattle.mm_definitions.specs.Keys.{Text}
 use Rattle.mm_definitions.specs.Package.{Package}
 use Rattle.mm_definitions.specs.Streams.{Written}
 use Rattle.mm_definitions.specs.declared.answers.Fault.{Fault}
-use Rattle.mm_store.specs.Stands.{IsSettled}
-use Rattle.mm_store.proofs.Seen.{seen_of}
-use Rattle.mm_core.specs.Adopted.{IsAdopted}
-use Rattle.mm_core.specs.Viewers.{IsOn, LeavesPackage}
 use Rattle.mm_core.specs.Writing.{IsBegun}
 use Rattle.mm_show.specs.Records.{row_records}
 use Rattle.mm_show.specs.Showing.{ShowsRecords, records_by, rows_shown, show_refusal}
 use Rattle.mm_work.specs.Shown.{TellsReason, TellsShownRows, status_by, text_by}
-use Rattle.mm_work.proofs.Texts.{early}
-
--- ---- what is printed
 
 pub told_records : (p : Package) (table : Text) (id : Option ℤ) (old new : Written)
     → ShowsRecords p table id old new (Ok None) → TellsShownRows p table id old new (Ok 0)
@@ -58,16 +49,3 @@ pub told_begun : (p : Package) (table : Text) (id : Option ℤ) (old new : Writt
 told_begun p table id old new fault (Ok status) stops begun = absurd (let f : false ≡ true = stops in cc)
 told_begun p table id old new fault (Err other) stops begun =
     begun_by (show_refusal p table id) _ old.contents new.contents begun
-
--- ---- the connection
-
-module _ (old mid new : State) (adopted : IsAdopted old mid)
-    (kept : LeavesPackage mid new) where
-  -- of each package that was settled
-  pub on : HasCleanDisk new → (p : Package) → IsSettled current old p → IsOn false mid new p
-  on clean p settled works =
-      let was = early old mid new adopted kept.survives kept.settled clean in (
-        clean,
-        adopted.meets was p (seen_of current _ p settled),
-        seen_of current mid p (adopted.settled was p settled),
-      )

@@ -4,7 +4,5 @@ pub mod Looked
 pub mod Pages
 pub mod Declined
 pub mod Migrated
-pub mod Stops
 pub mod Imports
 pub mod Shown
-pub mod Texts

@@ -1,9 +1,5 @@
 -- What is printed of a package that was migrated, and the exit status that goes with it.
-use Rattle.std.specs.Prelude.{◌≡◌, ℕ, List, Result, Ok, Err, codes}
-use Rattle.sqlite.specs.State.{State}
-use Rattle.mm_definitions.specs.declared.answers.Open.{Open}
-use Rattle.mm_core.specs.Migrations.{IsMigration}
-use Rattle.mm_work.specs.Declined.{stop_of}
+use Rattle.std.specs.Prelude.{ℕ, List, Result, Ok, Err, codes}
 use Rattle.mm_work.specs.Told.{stop_text, stop_status}
 use Rattle.mm_work.specs.declared.stop.Stop.{Stop}
 
@@ -16,7 +12,3 @@ migrate_text (Err why) = stop_text why
 abbrev pub migrate_status : Result (Unit {0}) Stop → ℕ
 migrate_status (Ok done) = 0
 migrate_status (Err why) = stop_status why
-
--- why it was not migrated is told, and what may be left is as the migration says of that
-abbrev pub IsUnmigrated : State → State → Stop → Type 0
-IsUnmigrated old new why = (cause : Open) × IsMigration old new (Err cause) × (why ≡ stop_of cause)

@@ -1,71 +1,21 @@
-//! The import of a kit on a connection, and what is printed of it.
+//! What is printed of the import of a kit.
 
-ghost use Rattle.std.specs.Prelude.{◌≡◌, ◌++◌, codes, decimal, false, IfErr, IfOk};
-ghost use Rattle.sqlite.specs.Held.{state};
-ghost use Rattle.sqlite.specs.State.{HasCleanDisk};
-ghost use Rattle.mm_definitions.specs.Bounds.{current};
+ghost use Rattle.std.specs.Prelude.{◌≡◌, ◌++◌, codes, decimal};
 ghost use Rattle.mm_definitions.specs.Streams.{written};
 ghost use Rattle.mm_io.specs.Sending.{IsOut};
-ghost use Rattle.mm_store.specs.Stands.{IsSettled};
-ghost use Rattle.mm_core.specs.Adopted.{WasAdopted};
-ghost use Rattle.mm_core.specs.Applied.{StandsForCurrent};
-ghost use Rattle.mm_kit.specs.Imports.{IsImportKept, OnKit, TellsFolder};
-ghost use Rattle.mm_run.specs.Runs.{OnSound};
-ghost use Rattle.mm_work.specs.Declined.{IsDeclined};
-ghost use Rattle.mm_work.specs.Imports.{IsImport, kit_status, kit_text, staged_status, staged_text};
+ghost use Rattle.mm_work.specs.Imports.{kit_status, kit_text, staged_status, staged_text};
 ghost use Rattle.mm_work.specs.Told.{IsTold};
 
-use crate::package::adopt_package;
-use crate::stop::Stop;
 use crate::tell::{DONE, FAULT, REFUSED, numbered_line, tell_bytes};
 use arrayvec::ArrayVec;
 use mm_definitions::answers::{KitFault, Staged};
-use mm_definitions::moments::Moment;
-use mm_definitions::names::Name;
 use mm_definitions::refusals::Reason;
 use mm_definitions::streams::Io;
 use mm_io::{put, put_number};
-use mm_kit::{Folder, import_kit};
-use sqlite::{Alter, Connection};
-use std::alloc::Global;
 use std::io::Write;
 
 /// What an import came to.
 pub type Import = Result<Staged, KitFault>;
-
-/// Imports the kit of a folder into an edition of the package of a connection, and hands the connection back. Where it
-/// is not adopted, with why not, and then the folder was not asked.
-pub fn import_package<S: Alter + Drop, F: Folder>(
-    alloc: Global,
-    conn: Connection<S>,
-    name: &Name,
-    folder: &mut F,
-    at: Moment,
-) -> Result<(Connection<S>, Import), (Connection<S>, Stop)>
-    requires { conn.in_transaction ≡ false }
-    ensures clean { IfOk result
-        (λ done. HasCleanDisk (state S.Store done.0) → HasCleanDisk (state S.Store conn)) }
-    ensures imported { IfOk result (λ done. OnKit (HasCleanDisk (state S.Store done.0))
-        (λ p. IsSettled current (state S.Store conn) p) (F.files folder.old)
-        (λ files p. IsImport files name.now p (state S.Store done.0) done.1)) }
-    ensures kept { IfOk result
-        (λ done. OnSound (HasCleanDisk (state S.Store done.0))
-        (λ p. IsSettled current (state S.Store conn) p)
-        (λ p. IsImportKept name.now p (λ q. IsSettled current (state S.Store done.0) q)
-        (λ db. (state S.Store done.0).may_leave db) StandsForCurrent done.1)) }
-    ensures folder { IfOk result
-        (λ done. TellsFolder (F.has_failed folder.old) (F.has_failed folder.new) done.1) }
-    ensures adopted { IfOk result
-        (λ done. WasAdopted (state S.Store conn) (state S.Store done.0)) }
-    ensures idle { IfOk result (λ done. done.0.in_transaction ≡ false) }
-    ensures declined { IfErr result (λ e. IsDeclined (state S.Store conn) (state S.Store e.0) e.1) }
-    ensures handed_back { IfErr result (λ e. e.0.in_transaction ≡ false) }
-    ensures unread { IfErr result (λ e. folder.new ≡ folder.old) }
-{
-    let mut session = adopt_package(alloc, conn)?;
-    let import = import_kit(alloc, &mut session, name, folder, at);
-    Ok((session.close(), import))
-}
 
 /// It is built in place and takes no memory.
 fn complete_line(count: u32) -> ArrayVec<u8, 64>

@@ -1,6 +1,6 @@
 //! Why the work was not done.
 
-use mm_definitions::answers::{Fault, RuleNumber};
+use mm_definitions::answers::{Fault, Open, RuleNumber};
 
 /// Why a file is no package of this profile.
 #[derive(Clone, Copy, Debug, PartialEq, Eq)]
@@ -42,4 +42,23 @@ pub enum Stop {
     /// The package breaks this rule.
     Rule(RuleNumber),
     Fault(Fault),
+}
+
+/// Why a connection is not adopted, as it is told.
+impl From<Open> for Stop {
+    ghost use Rattle.std.specs.Prelude.{◌≡◌};
+    ghost use Rattle.mm_work.specs.Declined.{stop_of};
+
+    ghost from_gives = { λ cause stop. stop ≡ stop_of cause };
+
+    fn from(cause: Open) -> Stop {
+        match cause {
+            Open::Version(_) => Stop::NotPackage(NoPackage::Version),
+            Open::NoProfile => Stop::NotPackage(NoPackage::NoProfile),
+            Open::BadProfile => Stop::NotPackage(NoPackage::BadProfile),
+            Open::BadBlobs => Stop::NotPackage(NoPackage::BadBlobs),
+            Open::Rule(rule) => Stop::Rule(rule),
+            Open::Fault(fault) => Stop::Fault(fault),
+        }
+    }
 }

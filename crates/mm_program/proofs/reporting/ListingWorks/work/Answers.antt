@@ -1,20 +1,50 @@
+use Rattle.std.proofs.Common.{inl, refl}
+use Rattle.std.proofs.lemmas.Result.{err_from_is_err_and}
 use Rattle.mm_definitions.specs.Streams.{written}
 use Rattle.mm_core.specs.Listing.{listing}
-use Rattle.mm_program.proofs.Left.{leaves_no_text, leaves_same, tells_no_text, tells_text}
+use Rattle.mm_program.proofs.Left.{leaves_same, leaves_service, seen_for, tells_cut, tells_declined, tells_text}
 use Rattle.mm_program.proofs.reporting.ListingWorks.work.Goals as goal
 
-pub returns-in-Ok-clause-found : goal.returns-in-Ok-clause-found
-returns-in-Ok-clause-found g c clean =
-    tells_text _ _ c.requires.fresh clean listing (λ p. tt {0}) (written g.W.Write.contents c.args.output.now)
-    (written g.W.Write.contents c.list_package.new.output) tt c.in-Ok.ensures.listed
+pub returns-in_err-session-clause-found : goal.returns-in_err-session-clause-found
+returns-in_err-session-clause-found g c =
+    let p = err_from_is_err_and c.from_residual.result c.from_residual.ensures.1 in
+    rw (p.1, p.2) (λ clean x stands.
+    inl (tells_declined _ _ c.requires.fresh clean _ c.in_err-session.ensures.declined x stands, refl))
 
-pub returns-in-Err-clause-found : goal.returns-in-Err-clause-found
-returns-in-Err-clause-found g c clean =
-    tells_no_text _ _ c.requires.fresh clean listing (λ p. tt {0}) _ _ _ c.in-Err.ensures.unlisted
+pub returns-in_err-session-clause-worked : goal.returns-in_err-session-clause-worked
+returns-in_err-session-clause-worked g c =
+    let p = err_from_is_err_and c.from_residual.result c.from_residual.ensures.1 in
+    rw (p.1, p.2) (λ clean. leaves_same _ _ c.requires.fresh clean c.in_err-session.ensures.declined.1.survives)
+
+pub returns-in-Ok-clause-found : goal.returns-in-Ok-clause-found
+returns-in-Ok-clause-found g c =
+    let it = c.in-Ok.ensures.reads.read c.in_ok-session.ensures.working in
+    rw c.close.ensures
+    (λ clean. tells_text _ _ _ c.requires.fresh clean c.in_ok-session.ensures.adopted it.survives listing (λ p. tt {0})
+    (written g.W.Write.contents c.args.output.now) (written g.W.Write.contents c.list.new.writer) tt
+    (λ p stands. (
+      it.written clean p
+          (seen_for _ _ _ c.requires.fresh clean c.in_ok-session.ensures.adopted it.survives p stands),
+      refl,
+    )))
 
 pub returns-in-Ok-clause-worked : goal.returns-in-Ok-clause-worked
-returns-in-Ok-clause-worked g c clean = leaves_same _ _ c.requires.fresh clean c.in-Ok.ensures.listed.survives
+returns-in-Ok-clause-worked g c =
+    let it = c.in-Ok.ensures.reads.read c.in_ok-session.ensures.working in
+    rw c.close.ensures
+    (λ clean. leaves_service _ _ _ c.requires.fresh clean c.in_ok-session.ensures.adopted it.survives)
+
+pub returns-in-Err-clause-found : goal.returns-in-Err-clause-found
+returns-in-Err-clause-found g c =
+    let it = c.in-Err.ensures.reads.read c.in_ok-session.ensures.working in
+    rw c.close-in-Err.ensures
+    (λ clean. tells_cut _ _ _ c.requires.fresh clean c.in_ok-session.ensures.adopted it.survives listing (λ p. tt {0})
+    (written g.W.Write.contents c.args.output.now) (written g.W.Write.contents c.list.new.writer) c.in-Err.fault
+    (λ p stands. it.written clean p
+    (seen_for _ _ _ c.requires.fresh clean c.in_ok-session.ensures.adopted it.survives p stands)) it.writer)
 
 pub returns-in-Err-clause-worked : goal.returns-in-Err-clause-worked
-returns-in-Err-clause-worked g c clean =
-    leaves_no_text _ _ c.requires.fresh clean listing _ _ _ c.in-Err.ensures.unlisted
+returns-in-Err-clause-worked g c =
+    let it = c.in-Err.ensures.reads.read c.in_ok-session.ensures.working in
+    rw c.close-in-Err.ensures
+    (λ clean. leaves_service _ _ _ c.requires.fresh clean c.in_ok-session.ensures.adopted it.survives)

@@ -1,21 +1,39 @@
+use Rattle.std.proofs.Common.{Err, Ok, inl}
+use Rattle.std.proofs.lemmas.Result.{err_from_is_err_and}
 use Rattle.mm_program.proofs.Left.{leaves_same, leaves_service, tells_declined, tells_service}
-use Rattle.std.proofs.Common.{inl}
 use Rattle.mm_program.proofs.serving.PageWorks.work.Goals as goal
 
+pub returns-in_err-session-clause-found : goal.returns-in_err-session-clause-found
+returns-in_err-session-clause-found g c =
+    let p = err_from_is_err_and c.from_residual.result c.from_residual.ensures.1 in
+    rw (p.1, p.2) (λ clean x stands.
+    inl (tells_declined _ _ c.requires.fresh clean _ c.in_err-session.ensures.declined x stands))
+
+pub returns-in_err-session-clause-worked : goal.returns-in_err-session-clause-worked
+returns-in_err-session-clause-worked g c =
+    let p = err_from_is_err_and c.from_residual.result c.from_residual.ensures.1 in
+    rw (p.1, p.2) (λ clean. leaves_same _ _ c.requires.fresh clean c.in_err-session.ensures.declined.1.survives)
+
+pub returns-in-Ok-clause-found : goal.returns-in-Ok-clause-found
+returns-in-Ok-clause-found g c =
+    rw c.close.ensures
+    (λ clean. tells_service _ _ _ c.requires.fresh clean c.in_ok-session.ensures.adopted
+    c.serve_port.ensures.kept.survives (Ok c.in-Ok.status) tt)
+
+pub returns-in-Ok-clause-worked : goal.returns-in-Ok-clause-worked
+returns-in-Ok-clause-worked g c =
+    rw c.close.ensures
+    (λ clean. leaves_service _ _ _ c.requires.fresh clean c.in_ok-session.ensures.adopted
+    c.serve_port.ensures.kept.survives)
+
 pub returns-in-Err-clause-found : goal.returns-in-Err-clause-found
-returns-in-Err-clause-found g c clean p stands =
-    inl (tells_declined _ _ c.requires.fresh clean _ c.in-Err.ensures.declined p stands)
+returns-in-Err-clause-found g c =
+    rw c.close-in-Err.ensures
+    (λ clean. tells_service _ _ _ c.requires.fresh clean c.in_ok-session.ensures.adopted
+    c.serve_port.ensures.kept.survives (Err c.in-Err.why) c.in-Err.ensures.unbound)
 
 pub returns-in-Err-clause-worked : goal.returns-in-Err-clause-worked
-returns-in-Err-clause-worked g c clean = leaves_same _ _ c.requires.fresh clean c.in-Err.ensures.declined.1.survives
-
-pub returns-clause-found : goal.returns-clause-found
-returns-clause-found g c =
-    rw c.close.ensures
-    (λ clean. tells_service _ _ _ c.requires.fresh clean c.in-Ok.ensures.adopted c.serve_port-served.ensures.kept _
-    c.serve_port-served.ensures.unbound)
-
-pub returns-clause-worked : goal.returns-clause-worked
-returns-clause-worked g c =
-    rw c.close.ensures
-    (λ clean. leaves_service _ _ _ c.requires.fresh clean c.in-Ok.ensures.adopted c.serve_port-served.ensures.kept)
+returns-in-Err-clause-worked g c =
+    rw c.close-in-Err.ensures
+    (λ clean. leaves_service _ _ _ c.requires.fresh clean c.in_ok-session.ensures.adopted
+    c.serve_port.ensures.kept.survives)

@@ -1,22 +1,29 @@
-use Rattle.mm_definitions.specs.Bounds.{current}
-use Rattle.mm_program.proofs.Left.{found_well, leaves_same, ran_to, tells_declined}
-use Rattle.mm_core.proofs.Opened.{opened_settles}
+use Rattle.std.proofs.lemmas.Result.{err_from_is_err_and}
+use Rattle.mm_program.proofs.Left.{leaves_same, ran_to, settled_for, tells_declined, was_well}
 use Rattle.mm_program.proofs.subcommands.RunWorks.work.Goals as goal
 
-pub returns-in-Ok-clause-worked : goal.returns-in-Ok-clause-worked
-returns-in-Ok-clause-worked g c clean after may p stands meets =
-    let it = c.in-Ok.ensures in
-    let settled = opened_settles _ (c.requires.fresh (it.clean clean)) current p stands in (
+pub returns-in_err-session-clause-found : goal.returns-in_err-session-clause-found
+returns-in_err-session-clause-found g c =
+    let p = err_from_is_err_and c.from_residual.result c.from_residual.ensures.1 in
+    rw (p.1, p.2) (λ clean. tells_declined _ _ c.requires.fresh clean _ c.in_err-session.ensures.declined)
+
+pub returns-in_err-session-clause-worked : goal.returns-in_err-session-clause-worked
+returns-in_err-session-clause-worked g c =
+    let p = err_from_is_err_and c.from_residual.result c.from_residual.ensures.1 in
+    rw (p.1, p.2) (λ clean. leaves_same _ _ c.requires.fresh clean c.in_err-session.ensures.declined.1.survives)
+
+pub returns-clause-found : goal.returns-clause-found
+returns-clause-found g c =
+    let adopted = c.in_ok-session.ensures.adopted in
+    rw c.close.ensures
+    (λ clean. was_well _ _ c.requires.fresh adopted (c.run_session-status.ensures.clean clean))
+
+pub returns-clause-worked : goal.returns-clause-worked
+returns-clause-worked g c =
+    let adopted = c.in_ok-session.ensures.adopted in
+    let it = c.run_session-status.ensures in
+    rw c.close.ensures (λ clean after may p stands meets.
+    let settled = settled_for _ _ c.requires.fresh adopted (it.clean clean) p stands in (
       it.kept clean p settled meets after may,
       λ bytes is. ran_to p _ bytes _ _ _ _ after may (it.ran clean p (settled, meets) bytes is),
-    )
-
-pub returns-in-Ok-clause-found : goal.returns-in-Ok-clause-found
-returns-in-Ok-clause-found g c clean =
-    found_well _ _ c.requires.fresh clean c.in-Ok.ensures.clean c.in-Ok.ensures.adopted
-
-pub returns-in-Err-clause-found : goal.returns-in-Err-clause-found
-returns-in-Err-clause-found g c clean = tells_declined _ _ c.requires.fresh clean _ c.in-Err.ensures.declined
-
-pub returns-in-Err-clause-worked : goal.returns-in-Err-clause-worked
-returns-in-Err-clause-worked g c clean = leaves_same _ _ c.requires.fresh clean c.in-Err.ensures.declined.1.survives
+    ))

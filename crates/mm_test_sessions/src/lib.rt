@@ -1,13 +1,13 @@
-//! Tests of runs, sessions, kits and the page, over stores in memory. Nothing stands here but tests, so that no crate
-//! of the product is proved a second time with its own.
+//! Tests of runs, sessions, kits and the page, over stores in memory, where a reader, a writer, a folder or a store has to
+//! fail at a chosen place; what the program answers else is shown by the transcripts of `cases/`. Nothing stands here but
+//! tests, so that no crate of the product is proved a second time with its own.
 //!
 //! - `examples`: the examples in the heads of `mm_core`, `mm_kit` and `mm_page`.
 //! - `fakes`: writers, readers and folders that fail.
-//! - `rows`: rows that are shown as records.
+//! - `looks`: a row, and rows and a listing that are cut.
 //! - `runs`: a run on systems of the tests' own.
-//! - `sessions`: what is answered, adopted, checked and listed.
-//! - `kits`: imports of folders in memory.
-//! - `pages`: requests and their responses.
+//! - `kits`: imports of a kit one of whose reads fails.
+//! - `pages`: requests whose reader or writer fails.
 //! - `desks`: the same of a desk, and records that are sent.
 //! - `reopening`: sessions that have to be opened again.
 //! - `streams`: what stands where a reader or a writer failed.
@@ -22,14 +22,12 @@ mod fakes;
 #[cfg(test)]
 mod kits;
 #[cfg(test)]
+mod looks;
+#[cfg(test)]
 mod pages;
 #[cfg(test)]
 mod reopening;
 #[cfg(test)]
-mod rows;
-#[cfg(test)]
 mod runs;
-#[cfg(test)]
-mod sessions;
 #[cfg(test)]
 mod streams;

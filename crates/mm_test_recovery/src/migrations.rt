@@ -1,8 +1,8 @@
 //! A package of profile 1 on disks in memory that stop while it is migrated.
 
-use crate::recovery::{after_crash, files_of, put_new, session_on};
+use crate::recovery::{after_crash, files_of, put_new};
 use mm_core::Session;
-use mm_test_packages::{FINER, PYRAMID, answers};
+use mm_test_packages::{FINER, PYRAMID, answers, create, open};
 use sqlite::{Alter, Connection, FileStore, Files};
 use sqlite_disk::Crash;
 use std::alloc::Global;
@@ -16,18 +16,14 @@ UPDATE gpkg_tile_matrix_set SET min_x = min_x / 1000, min_y = min_y / 1000, max_
 UPDATE gpkg_tile_matrix SET pixel_x_size = pixel_x_size / 1000, pixel_y_size = pixel_y_size / 1000;
 UPDATE mm_profile SET version = 1";
 
-/// A connection whose package is told so.
-fn told_older<S: Alter + Drop>(conn: Connection<S>) -> Option<Connection<S>> {
-    let mut conn = conn;
+/// A connection to a package of profile 1 with a pyramid of two matrices; None where it takes none.
+fn older<S: Alter + Drop>(alloc: Global, conn: Connection<S>) -> Option<Connection<S>> {
+    let mut session = create(alloc, conn)?;
+    answers(alloc, &mut session, PYRAMID.as_bytes())?;
+    answers(alloc, &mut session, FINER.as_bytes())?;
+    let mut conn = session.close();
     conn.execute_batch(OLDER).ok()?;
     Some(conn)
-}
-
-/// A connection to a package of profile 1 in these files, with a pyramid of two matrices; None where they take none.
-fn older<D: Crash + Drop>(alloc: Global, files: Files<D>) -> Option<Connection<FileStore<D>>> {
-    let mut session = session_on(alloc, files, PYRAMID.as_bytes())?;
-    answers(alloc, &mut session, FINER.as_bytes())?;
-    told_older(session.close())
 }
 
 /// The numbers that a change of unit changes, each query a line.
@@ -112,7 +108,7 @@ fn finding(ended: bool, found: &str, again: &str) -> &'static str {
 
 /// The same in these files; None where they take no package.
 fn finding_in<D: Crash + Drop>(alloc: Global, files: Files<D>) -> Option<&'static str> {
-    let conn = older(alloc, files)?;
+    let conn = older(alloc, open(alloc, files)?)?;
     let Some((ended, found, again)) = found_after(alloc, conn) else {
         return Some("not opened\n");
     };

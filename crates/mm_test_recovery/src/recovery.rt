@@ -101,6 +101,11 @@ fn found_in<S: Alter>(alloc: Global, session: &mut Session<S>) -> Option<(usize,
     Some((tables, rows + usize::from(tile) + usize::from(matrix)))
 }
 
+/// A session on a new package in these files; None where they take none.
+fn new_package<D: Crash + Drop>(alloc: Global, files: Files<D>) -> Option<Session<FileStore<D>>> {
+    create(alloc, open(alloc, files)?)
+}
+
 /// How many records a run acknowledged, and whether it met no stop.
 fn done_in(ran: Result<Tally, RunFault>) -> (u64, bool) {
     match ran {
@@ -109,11 +114,11 @@ fn done_in(ran: Result<Tally, RunFault>) -> (u64, bool) {
     }
 }
 
-/// A run whose files then crash: how many records it acknowledged, whether it met no stop, and the session that is then adopted.
+/// A run whose files then crash: how many records it acknowledged, whether it met no stop, and what is then found of the package.
 fn run_and_crash<D: Crash + Drop>(
     alloc: Global,
     session: Session<FileStore<D>>,
-) -> Option<(u64, bool, Session<FileStore<D>>)> {
+) -> Option<(u64, bool, Option<(usize, usize)>)> {
     let mut reader = Io::new(RECORDS);
     let mut writer = Io::new(Vec::new(alloc));
     let at = Moment::new(0)?;
@@ -126,7 +131,8 @@ fn run_and_crash<D: Crash + Drop>(
         Options::new(7),
     );
     let (done, ended) = done_in(ran);
-    Some((done, ended, again.ok()?))
+    let mut again = again.ok()?;
+    Some((done, ended, found_in(alloc, &mut again)))
 }
 
 /// Whether so many acknowledged records, or one more, make what is found.
@@ -139,11 +145,10 @@ fn is_first_part(done: u64, found: Option<(usize, usize)>) -> bool {
 
 /// What is found after a run on these files, and whether the run met no stop; None where they take no package.
 fn found_after<D: Crash + Drop>(alloc: Global, files: Files<D>) -> Option<(&'static str, bool)> {
-    let session = create(alloc, open(alloc, files)?)?;
-    let Some((done, ended, mut again)) = run_and_crash(alloc, session) else {
+    let Some((done, ended, found)) = run_and_crash(alloc, new_package(alloc, files)?) else {
         return Some(("no package", false));
     };
-    if is_first_part(done, found_in(alloc, &mut again)) {
+    if is_first_part(done, found) {
         Some(("a first part", ended))
     } else {
         Some(("no first part", false))
@@ -194,7 +199,7 @@ fn answer_twice<S: Alter + Drop>(alloc: Global, session: Session<S>) -> Option<S
 
 /// The same on a new package in these files; None where they take none.
 fn answers_on<D: Crash + Drop>(alloc: Global, files: Files<D>) -> Option<String> {
-    answer_twice(alloc, create(alloc, open(alloc, files)?)?)
+    answer_twice(alloc, new_package(alloc, files)?)
 }
 
 /// What is answered on disks that take more and more calls, one answer a text, up to the first that meets no fault.
@@ -323,8 +328,7 @@ fn makes_again_what_was_stopped(rt: HostRuntime) -> Result<(), Fail> {
 
 /// Whether a package that is made on files, and lost, is found where it is made again.
 fn made_twice<D: Crash + Drop>(alloc: Global, files: Files<D>) -> Option<bool> {
-    let session = create(alloc, open(alloc, files)?)?;
-    Some(is_made_after(alloc, let_go(session.close())))
+    Some(is_made_after(alloc, lost(alloc, files)?))
 }
 
 #[test]
@@ -335,12 +339,12 @@ fn finds_what_was_made_before(rt: HostRuntime) -> Result<(), Fail> {
 }
 
 /// A session on a new package in these files after these records; None where they take no package.
-pub(crate) fn session_on<D: Crash + Drop>(
+fn session_on<D: Crash + Drop>(
     alloc: Global,
     files: Files<D>,
     records: &[u8],
 ) -> Option<Session<FileStore<D>>> {
-    let mut session = create(alloc, open(alloc, files)?)?;
+    let mut session = new_package(alloc, files)?;
     answers(alloc, &mut session, records)?;
     Some(session)
 }
@@ -367,23 +371,26 @@ fn lost<D: Crash + Drop>(alloc: Global, files: Files<D>) -> Option<Files<D>> {
     Some(let_go(session.close()))
 }
 
-/// How many tables are found in a package that is adopted from the files that a stopped recovery left, behind a crash.
-fn found_at_last<D: Crash + Drop>(alloc: Global, left: Files<D>) -> Option<(bool, usize)> {
-    match adopt_left(alloc, crash_files(left), Options::new(7)) {
-        Ok(mut again) => Some((true, tables_in(&mut again)?)),
-        Err(_) => None,
+/// How many tables are found in a package that is adopted from what was left, or the files of a recovery that was stopped.
+fn adopted<D: Crash + Drop>(alloc: Global, files: Files<D>) -> Result<Option<usize>, Files<D>> {
+    if !files.may_be_used() {
+        return Ok(None);
+    }
+    match adopt_left(alloc, files, Options::new(7)) {
+        Ok(mut again) => Ok(tables_in(&mut again)),
+        Err(NotBegun::Declined(conn, _)) => Err(let_go(conn)),
+        Err(NotBegun::Unopened(stop)) => Err(stop.into_files()),
     }
 }
 
-/// Whether a recovery from files is stopped, and how many tables are found in the end.
+/// Whether a recovery from files is stopped, and how many tables are found in the end, behind a crash where it was.
 fn gone_on<D: Crash + Drop>(alloc: Global, files: Files<D>) -> Option<(bool, usize)> {
-    if !files.may_be_used() {
-        return None;
-    }
-    match adopt_left(alloc, files, Options::new(7)) {
-        Ok(mut again) => Some((false, tables_in(&mut again)?)),
-        Err(NotBegun::Declined(conn, _)) => found_at_last(alloc, let_go(conn)),
-        Err(NotBegun::Unopened(stop)) => found_at_last(alloc, stop.into_files()),
+    match adopted(alloc, files) {
+        Ok(tables) => Some((false, tables?)),
+        Err(left) => match adopted(alloc, crash_files(left)) {
+            Ok(tables) => Some((true, tables?)),
+            Err(_) => None,
+        },
     }
 }
 
